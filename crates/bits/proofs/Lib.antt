@@ -1,0 +1,6 @@
+pub mod AnswerLaws
+pub mod Examples
+pub mod Laws
+pub mod SameLaws
+pub mod SetLaws
+pub mod Unique
