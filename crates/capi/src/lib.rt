@@ -11,8 +11,8 @@ ghost use mathlib.Core.Path.{_≡_};
 ghost use mathlib.Core.Bool.{false};
 ghost use Rattle.refusal.specs.Refusals.{grounds, groundsOf};
 ghost use Rattle.bits.specs.Answers.{getOf, setOf, rangeEqOf, rangeZeroOf};
-ghost use Prim.Native.Nat.{_*_};
-ghost use Rattle.crc.specs.Crc.{crcOf, idle};
+ghost use lib.ListN.{replicate};
+ghost use Rattle.crc.specs.Crc.{crcOf};
 ghost use Rattle.capi.specs.Replies.{reply, replyOf, running, runningOf};
 
 // A refusal's number, with its bit in the room for it.
@@ -130,7 +130,7 @@ pub extern "C" fn zela_crc16(init: u16, bytes: &[u8], value: &mut u16) -> u8
 // crc::zeros.
 #[no_mangle]
 pub extern "C" fn zela_crc16_zeros(init: u16, n: usize, value: &mut u16) -> u8
-    ensures { λ k. ⌜ (k ≡ 0) × (now (value .exit) ≡ idle (8 * n) init) ⌝ }
+    ensures { λ k. ⌜ (k ≡ 0) × (now (value .exit) ≡ crcOf init (replicate n 0)) ⌝ }
 {
     *value = crc::zeros(init, n);
     0

@@ -5,7 +5,7 @@ use Prim.Native.Nat.{ℕ, zero, suc, _+_, _*_, _/_, _%_, _^_, _<_}
 use native.Mathlib.Nat.{le-of-suc-le-suc, not-suc-le-zero, mod-lt, zero-lt-suc, add-zero}
 use lib.Arith.{bin-ind}
 use lib.Pow.{pow-pos}
-use lib.Bits.{bitXor, differ, xor-step, xor-shr, xor-mod, xor-block, xor-comm, xor-self, xor-zero-r}
+use lib.Bits.{bitXor, differ, xor-step, xor-shr, xor-mod, xor-block, xor-comm, xor-self, xor-zero-r, xor-lt}
 
 -- what holds of 0 and of 1 holds of each bit
 pub bit : (P : ℕ → Type 0) → P 0 → P 1 → (n : ℕ) → n < 2 → P n
@@ -13,8 +13,13 @@ bit P a b zero h = a
 bit P a b (suc zero) h = b
 bit P a b (suc (suc n)) h = absurd (not-suc-le-zero (le-of-suc-le-suc (le-of-suc-le-suc h)))
 
+-- the lowest bit of a number is a bit
 pub bit-lt : (n : ℕ) → n % 2 < 2
 bit-lt n = mod-lt n (zero-lt-suc 1)
+
+-- and so is the sum of two
+pub bit-xor-lt : (p q : ℕ) → bitXor (p % 2) (q % 2) < 2
+bit-xor-lt p q = xor-lt 1 (p % 2) (q % 2) (bit-lt p) (bit-lt q)
 
 differ-assoc : (x y z : ℕ) → x < 2 → y < 2 → z < 2 → differ (differ x y) z ≡ differ x (differ y z)
 differ-assoc x y z hx hy hz =
@@ -33,6 +38,7 @@ half a b = xor-shr a b 1
 odd : (a b : ℕ) → bitXor a b % 2 ≡ differ (a % 2) (b % 2)
 odd a b = xor-mod a b 1 ∙ bits-differ (a % 2) (b % 2) (bit-lt a) (bit-lt b)
 
+-- sums can be grouped anew
 pub xor-assoc : (a b c : ℕ) → bitXor (bitXor a b) c ≡ bitXor a (bitXor b c)
 xor-assoc a =
     bin-ind (λ (n : ℕ). (b c : ℕ) → bitXor (bitXor n b) c ≡ bitXor n (bitXor b c)) (λ b c. refl)
@@ -54,6 +60,7 @@ xor-pairs a b c d =
 pub xor-cancel : (a b : ℕ) → bitXor (bitXor a b) b ≡ a
 xor-cancel a b = xor-assoc a b b ∙ ap (bitXor a) (xor-self b) ∙ xor-zero-r a
 
+-- the same from the left
 pub xor-cancel-left : (a b : ℕ) → bitXor a (bitXor a b) ≡ b
 xor-cancel-left a b = sym (xor-assoc a a b) ∙ ap (λ (x : ℕ). bitXor x b) (xor-self a)
 

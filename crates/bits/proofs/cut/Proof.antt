@@ -1,6 +1,5 @@
 -- `bits::cut` meets its contract: `1 << n` is `2 ^ n`, and what is left after `% 2 ^ n` fits in 32 bits.
 -- Assumes nothing.
-use Prim.Native.Nat.{_^_}
 use native.Mathlib.Nat.{mod-lt, lt-of-lt-of-le}
 use lib.Pow.{pow-pos, pow-mono}
 use Rattle.bits.proofs.Laws.{shl-one}

@@ -1,6 +1,6 @@
 -- `bits::with_bit` meets its contract: `1 << (7 - off)` is the weight of the bit, and a byte stays a byte.
 -- Assumes nothing.
-use Prim.Native.Nat.{_-_, _^_}
+use Prim.Native.Nat.{_-_}
 use lib.Pow.{pow-pos, shr-le}
 use Rattle.bits.specs.Bits.{withBit}
 use Rattle.bits.proofs.Laws.{shl-one}

@@ -1,22 +1,23 @@
--- `crc::next` meets its contract: the table's rule and the table form of a byte's step.
+-- `crc::next` meets its contract.
 -- Assumes nothing.
 use native.Mathlib.Omega.{arith}
-use Rattle.crc.proofs.Table.{entries, next-law, place-lt}
+use Rattle.crc.proofs.Tables.{high-place, next-law}
 use Rattle.crc.proofs.next.Statement.{statement}
 use Rattle.crc.proofs.next.Tie as tie
 
 cast-at : tie.Need-cast-at
-cast-at c = omega (arith, place-lt (c .args .c) (c .args .x) (c .fits .c .fits) (c .fits .x .fits))
+cast-at c = omega (arith, high-place (c .args .c) (c .args .x) (c .fits .c .fits) (c .fits .x .fits))
 
 mul-result : tie.Need-mul-result
-mul-result c = omega (arith, place-lt (c .args .c) (c .args .x) (c .fits .c .fits) (c .fits .x .fits))
+mul-result c = omega (arith, high-place (c .args .c) (c .args .x) (c .fits .c .fits) (c .fits .x .fits))
 
-array-read-result : tie.Need-array-read-result
-array-read-result c = omega (arith, place-lt (c .args .c) (c .args .x) (c .fits .c .fits) (c .fits .x .fits))
+element-copy-out-result : tie.Need-element-copy-out-result
+element-copy-out-result c = omega (arith, high-place (c .args .c) (c .args .x) (c .fits .c .fits) (c .fits .x .fits))
 
 returns : tie.Need-returns
-unfolding entries
-returns c = next-law (c .args .c) (c .args .x) (c .fits .c .fits) (c .fits .x .fits)
+returns c =
+    let s = c .before in
+    next-law (s .args .one .now) (s .args .c) (s .args .x) (s .pre) (s .fits .c .fits) (s .fits .x .fits)
 
 pub next-spec : {M : Type 1} → statement M
-next-spec = tie.close (tie.spec cast-at mul-result array-read-result returns)
+next-spec = tie.close (tie.spec cast-at mul-result element-copy-out-result returns)
