@@ -1,0 +1,16 @@
+//! Holds the core's answers to those of the Rust that it was ported from, and records them.
+//!
+//! Where document 01 refuses a call, the answer is document 01's ([`rule`]), since the Rust would
+//! panic or answer something else there. Everywhere else it is the Rust's ([`rust`]).
+#![forbid(unsafe_code)]
+
+pub mod answers;
+pub mod call;
+pub mod cases;
+pub mod core;
+pub mod random;
+pub mod record;
+pub mod rule;
+pub mod rust;
+pub mod tally;
+pub mod vectors;

@@ -1,0 +1,180 @@
+//! Builds the archive of the proved core with `rt staticlib capi`, and links it. On a machine that
+//! is not x86-64 it makes a program of the archive for the kit's emulator instead (src/relay.rs).
+#![forbid(unsafe_code)]
+
+use std::env;
+use std::fs::{self, File};
+use std::path::{Path, PathBuf};
+use std::process::Command;
+
+/// The exporting crate of the core; `rt staticlib` writes `lib` and this name and `.a`.
+const CRATE: &str = "capi";
+/// The one target that the archive has code for.
+const TARGET: &str = "x86_64-unknown-linux-gnu";
+
+fn main() {
+    if let Err(why) = build() {
+        // Cargo fails the build for these, and prints nothing else with them.
+        for line in why.lines() {
+            println!("cargo::error={line}");
+        }
+    }
+}
+
+fn build() -> Result<(), String> {
+    let root = project_root()?;
+    watch(&root)?;
+    let (arch, os) = (set("CARGO_CFG_TARGET_ARCH")?, set("CARGO_CFG_TARGET_OS")?);
+    let linked = arch == "x86_64" && os == "linux";
+    let kit = if linked {
+        None
+    } else {
+        Some(Kit::for_machine(&arch, &os)?)
+    };
+    let out = PathBuf::from(set("OUT_DIR")?);
+    let archive = archive(&root, &out)?;
+    match kit {
+        None => link(&out),
+        Some(kit) => kit.relay(&root, &out, &archive)?,
+    }
+    Ok(())
+}
+
+/// A variable that cargo sets.
+fn set(name: &str) -> Result<String, String> {
+    env::var(name).map_err(|e| format!("{name}: {e}"))
+}
+
+/// The folder with crates.txt: two levels up from this crate.
+fn project_root() -> Result<PathBuf, String> {
+    let root = Path::new(&set("CARGO_MANIFEST_DIR")?).join("../..");
+    if root.join("crates.txt").is_file() {
+        return Ok(root);
+    }
+    let at = root.display();
+    Err(format!(
+        "no crates.txt in {at}: the archive is built from the project around this crate"
+    ))
+}
+
+/// Names everything that the archive is made from, so that it is made anew where that changes.
+fn watch(root: &Path) -> Result<(), String> {
+    for file in ["build.rs", "relay"] {
+        println!("cargo::rerun-if-changed={file}");
+    }
+    for file in ["crates.txt", "include"] {
+        println!("cargo::rerun-if-changed={}", root.join(file).display());
+    }
+    let crates = root.join("crates");
+    let listed = fs::read_dir(&crates).map_err(|e| format!("cannot read crates/: {e}"))?;
+    for entry in listed.flatten() {
+        for part in ["src", "specs", "proofs"] {
+            let folder = entry.path().join(part);
+            if folder.is_dir() {
+                println!("cargo::rerun-if-changed={}", folder.display());
+            }
+        }
+    }
+    Ok(())
+}
+
+/// Has `rt` write the archive below the project's target/, and copies it to `out`: a later `rt ci`
+/// removes target/, and this build's output must still link then.
+fn archive(root: &Path, out: &Path) -> Result<PathBuf, String> {
+    let name = format!("lib{CRATE}.a");
+    // Builds into several target folders share the project's target/: one at a time. A file system
+    // that locks nothing is no reason to fail.
+    let turn = File::open(root.join("crates.txt")).map_err(|e| format!("crates.txt: {e}"))?;
+    let _ = turn.lock();
+    run(Command::new("rt")
+        .args(["staticlib", CRATE])
+        .current_dir(root))?;
+    let made = root.join("target/staticlib").join(&name);
+    let kept = out.join(&name);
+    fs::copy(&made, &kept)
+        .map_err(|e| format!("rt left no archive at target/staticlib/{name}: {e}"))?;
+    Ok(kept)
+}
+
+fn link(out: &Path) {
+    println!("cargo::rustc-link-search=native={}", out.display());
+    println!("cargo::rustc-link-lib=static={CRATE}");
+}
+
+/// The parts of the kit that make and run x86-64 programs on this machine.
+struct Kit {
+    toolchain: PathBuf,
+    linker: PathBuf,
+}
+
+impl Kit {
+    /// The kit of a machine that emulates x86-64, found beside the guide that `rt doc` names.
+    fn for_machine(arch: &str, os: &str) -> Result<Self, String> {
+        let guide = run(Command::new("rt").arg("doc"))?;
+        let home = Path::new(guide.trim()).ancestors().nth(2);
+        let own = home.unwrap_or(Path::new("")).join("on").join(arch);
+        let kit = Kit {
+            toolchain: own.join("toolchain"),
+            linker: own.join("bin/rattle-link"),
+        };
+        if os == "linux" && kit.toolchain.join("bin/qemu-x86_64").is_file() {
+            return Ok(kit);
+        }
+        Err(format!(
+            "the archive of the proved core is for x86_64 Linux alone; this build is for {arch} {os}, and the kit has no emulator for it"
+        ))
+    }
+
+    /// Makes the program that src/relay.rs runs.
+    fn relay(&self, root: &Path, out: &Path, archive: &Path) -> Result<(), String> {
+        let object = out.join("relay.o");
+        run(Command::new(self.toolchain.join("bin/clang"))
+            .args([
+                "-target", TARGET, "-std=c99", "-O2", "-fPIE", "-Wall", "-Wextra", "-Werror",
+            ])
+            .args(["-nostdinc", "-I", "relay/include", "-I"])
+            .arg(root.join("include"))
+            .args(["-c", "relay/relay.c", "-o"])
+            .arg(&object))?;
+        run(Command::new(&self.linker)
+            .args(["--target", TARGET, "--toolchain"])
+            .arg(&self.toolchain)
+            .arg("-o")
+            .arg(out.join("relay"))
+            .args([&object, archive]))?;
+        let toolchain = self.toolchain.display();
+        println!("cargo::rustc-env=ZELAMODURK_TOOLCHAIN={toolchain}");
+        Ok(())
+    }
+}
+
+/// Runs a program of the kit and hands over what it printed, or says what went wrong.
+fn run(command: &mut Command) -> Result<String, String> {
+    let name = command.get_program().to_string_lossy().into_owned();
+    let ran = command.output().map_err(|e| match name.as_str() {
+        "rt" => format!(
+            "cannot run `rt` ({e}): the Rattle kit's `rt` must be on PATH to build the archive"
+        ),
+        _ => format!("cannot run the kit's {name}: {e}"),
+    })?;
+    if ran.status.success() {
+        return Ok(String::from_utf8_lossy(&ran.stdout).into_owned());
+    }
+    let said = [ran.stderr, ran.stdout].concat();
+    let (status, end) = (ran.status, last_lines(&String::from_utf8_lossy(&said), 12));
+    Err(format!(
+        "{name} failed ({status}); it said at the end:\n{end}"
+    ))
+}
+
+/// The end of what a program said without what went well, each line cut: the prover's errors can run
+/// to thousands of characters.
+fn last_lines(said: &str, count: usize) -> String {
+    let well = |line: &&str| line.ends_with(": proved") || line.starts_with("library ");
+    let lines: Vec<&str> = said.lines().filter(|line| !well(line)).collect();
+    lines[lines.len().saturating_sub(count)..]
+        .iter()
+        .map(|line| line.chars().take(300).collect::<String>())
+        .collect::<Vec<_>>()
+        .join("\n")
+}

@@ -1,0 +1,33 @@
+//! Zelamodurk for Rust: a safe wrapper over the proved core that reads AC-3 and E-AC-3
+//! (ETSI TS 102 366 V1.4.1).
+//!
+//! The functions stand in modules named as the core's crates. They take slices, answer a value or
+//! `Result<_, Refusal>`, and panic on no input. What each one answers is said in
+//! `include/zelamodurk.h` and proved in the core; this crate only carries it over.
+//!
+//! ```
+//! use zelamodurk::{bits, Why};
+//!
+//! let frame = [0x0B, 0x77];
+//! assert_eq!(bits::get(&frame, 0, 16), Ok(0x0B77));
+//! assert_eq!(bits::get(&frame, 0, 17).unwrap_err().why, Why::PastLimit);
+//! ```
+
+pub mod bits;
+pub mod crc;
+#[cfg_attr(not(target_arch = "x86_64"), allow(dead_code))]
+mod ffi;
+mod refusal;
+#[cfg(not(target_arch = "x86_64"))]
+mod relay;
+
+#[cfg(target_arch = "x86_64")]
+use ffi as core;
+#[cfg(not(target_arch = "x86_64"))]
+use relay as core;
+
+pub use refusal::{Refusal, Why};
+
+/// Whether the core runs under the kit's emulator, since the archive holds x86-64 code alone. Times
+/// say nothing then.
+pub const EMULATED: bool = cfg!(not(target_arch = "x86_64"));
