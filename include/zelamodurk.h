@@ -11,7 +11,8 @@
  *  - A function that can refuse has `bit` as its last argument: where the call is refused, the cursor's bit
  *    that the refusal carries, which is 0 where there is no cursor; where it is taken, 0.
  *    A function without `bit` never refuses.
- *  - So all lent room is written by every call, and nothing of what stood in it is read.
+ *  - So all such room is written by every call, and nothing of what stood in it is read. Room that is read and written,
+ *    as a cursor's position, says so.
  *  - Bytes that a call may change (`uint8_t *`) are changed as the function says, and by a refused call
  *    not at all.
  *  - Bytes are lent as a pointer and then their number. A pointer is never NULL, also where the number is 0;
@@ -95,6 +96,99 @@ uint8_t zela_crc16(uint16_t init, const uint8_t *bytes, size_t bytes_len, uint16
 
 /* The register after n zero bytes, from the start value init. Never refuses: answers 0, and *value is the register. */
 uint8_t zela_crc16_zeros(uint16_t init, size_t n, uint16_t *value);
+
+/* ---- syntax: elements, the log, spans, tiling ---- */
+
+/*
+ * THE PLACE. A cursor is five numbers that the caller keeps: pos, its bit; limit, the bit that nothing read may
+ * pass; block, the audio block (-1 outside); count, how many elements are logged; and the frame's bytes. A call
+ * that reads or logs moves *pos and *count where it is taken, and leaves them as they were where it is refused.
+ * A place is sound where limit is at most 32,768 and at most 8 * frame_len; pos may be any number.
+ *
+ * THE LOG. Room of `log_words` words that the caller lends, eight to an element: name, role, block, index, position,
+ * width, value, and one that is 0. Role is the role's number (enum zela_role) and 32 times its programme; block and
+ * index are two's complement in 16 bits. At most 4,096 elements are taken, and no more than the words have room for.
+ * A call changes the words of the element that it logs, and no others; a refused call changes none.
+ *
+ * A role is handed over as its word. A number that no role has counts as ZELA_PLAIN, a programme is a byte.
+ */
+enum zela_role {
+    ZELA_PLAIN = 0,
+    ZELA_SYNC = 1,
+    ZELA_CRC1 = 2,
+    ZELA_CRC2 = 3,
+    ZELA_CRCRSV = 4,         /* AC-3 crcrsv or E-AC-3 encinfo */
+    ZELA_FRAME_SIZE = 5,
+    ZELA_DIALNORM = 6,       /* carries its programme */
+    ZELA_COMPR_EXISTS = 7,   /* carries its programme */
+    ZELA_COMPR = 8,          /* carries its programme */
+    ZELA_DYNRNG_EXISTS = 9,  /* carries its programme */
+    ZELA_DYNRNG = 10,        /* carries its programme */
+    ZELA_SKIPLE = 11,
+    ZELA_SKIPL = 12,
+    ZELA_SKIPFLD = 13,
+    ZELA_ADDBSI = 14,
+    ZELA_MANTISSAS = 15,
+    ZELA_AUX_BITS = 16,
+    ZELA_AUX_DATA_L = 17,
+    ZELA_AUX_DATA_E = 18,
+    ZELA_BLK_STRT_INFO_E = 19,
+    ZELA_BLK_STRT_INFO = 20
+};
+
+/* Whether a role holds a gain word or its presence flag; a checksum over the frame; a span. Never refuse. */
+uint8_t zela_role_is_drc(uint32_t role, bool *is);
+uint8_t zela_role_is_checksum(uint32_t role, bool *is);
+uint8_t zela_role_is_span(uint32_t role, bool *is);
+
+/*
+ * Reads one element of `width` bits at the cursor, and logs it.
+ * Refuses, in this order: 6 where width is above 32, the place is not sound, or *count passes the log's room; 1 where
+ * *pos + width passes the limit; 19 where the log is full. Each leaves the cursor before the element, *bit is *pos.
+ * Taken: *value is the bits, *pos is width further, *count one more.
+ */
+uint8_t zela_read_element(const uint8_t *frame, size_t frame_len, uint32_t *log, size_t log_words, size_t *pos,
+                          size_t limit, int8_t block, size_t *count, uint32_t name, uint32_t role, int16_t index,
+                          size_t width, uint32_t *value, size_t *bit);
+
+/*
+ * Reads `width` bits at the cursor and logs nothing.
+ * Refuses, in this order: 6 where width is above 32 or the place is not sound; 1 where *pos + width passes the limit.
+ * *bit is *pos then. Taken: *value is the bits, *pos is width further.
+ */
+uint8_t zela_read_raw(const uint8_t *frame, size_t frame_len, size_t *pos, size_t limit, size_t width,
+                      uint32_t *value, size_t *bit);
+
+/*
+ * Logs the next `width` bits, any number of them, as one element with index -1 and value 0.
+ * Refuses, in this order: 6 where the place is not sound, or *count passes the log's room; 1 where *pos + width passes
+ * the limit; 19 where the log is full. *bit is *pos then. Taken: *pos is width further, *count one more.
+ */
+uint8_t zela_span(const uint8_t *frame, size_t frame_len, uint32_t *log, size_t log_words, size_t *pos, size_t limit,
+                  int8_t block, size_t *count, uint32_t name, uint32_t role, size_t width, size_t *bit);
+
+/*
+ * Logs the bits from `start` to the cursor, which stays, as one element with index -1 and value 0.
+ * Refuses, in this order: 6 where the place is not sound, *count passes the log's room, start is past pos, or pos is
+ * past the limit; 19 where the log is full. *bit is pos then. Taken: *count is one more.
+ */
+uint8_t zela_close_span(const uint8_t *frame, size_t frame_len, uint32_t *log, size_t log_words, size_t pos,
+                        size_t limit, int8_t block, size_t *count, uint32_t name, uint32_t role, size_t start,
+                        size_t *bit);
+
+/*
+ * Whether the first `count` elements of the log tile the bits below `total`: the first starts at 0, each other where the
+ * one before it ends, and the last ends at total.
+ * Refuses, in this order: 6 where count passes the log's room; 18 where they don't. *bit is 0 then.
+ */
+uint8_t zela_check_tiling(const uint32_t *log, size_t log_words, size_t count, size_t total, size_t *bit);
+
+/*
+ * Element k of a log of `count` elements.
+ * Refuses: 6 where count passes the log's room, or k is not below count; all lent room is 0 then, *bit too.
+ */
+uint8_t zela_element_at(const uint32_t *log, size_t log_words, size_t count, size_t k, uint32_t *name, uint32_t *role,
+                        int8_t *block, int16_t *index, uint32_t *pos, uint32_t *width, uint32_t *value, size_t *bit);
 
 #ifdef __cplusplus
 }

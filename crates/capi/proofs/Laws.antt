@@ -1,26 +1,52 @@
--- The two arms of a thin function: the call below was taken, or its refusal is told.
+-- A thin function's answer, from what the call below answers.
 -- Assumes nothing.
-use mathlib.Core.Path.{_≡_, sym, ap, _∙_}
+use mathlib.Core.Path.{_≡_, refl, sym, ap, _∙_}
 use mathlib.Core.List.{List}
+use lib.ListN.{length}
 use Prim.Native.Nat.{ℕ}
-use Rattle.refusal.specs.Refusals.{Grounds, grounds, Outcome, taken, refused, Ran}
-use Rattle.capi.specs.Replies.{reply, replyOf, running, runningOf}
+use Rattle.refusal.specs.Refusals.{Grounds, grounds, Outcome, taken, refused, Ran, settle}
+use Rattle.syntax.specs.declared.Place.{Place}
+use Rattle.syntax.specs.declared.Role.{Role}
+use Rattle.syntax.specs.Reads.{Standing, standing, closeOf, closes}
+use Rattle.capi.specs.Replies.{Told, told, toldOf, Reply, reply, replyOf, running, runningOf}
+use Rattle.capi.specs.Standings.{stood, stoodOf, moved, movedOf, advanced, advancedOf}
 
--- p is what the call's contract says, o what its answer means
-module _ {A : Type 0} (other : A) {o p : Outcome A} (e : o ≡ p) where
-  pub reply-taken : {a : A} → o ≡ taken a → reply 0 a 0 ≡ replyOf other p
-  reply-taken h = ap (replyOf other) (sym h ∙ e)
+-- the two arms of an answer that means o
+module _ {A : Type 0} {o : Outcome A} where
+  pub told-taken : {a : A} → o ≡ taken a → told 0 0 ≡ toldOf o
+  told-taken h = ap toldOf (sym h)
 
-  pub reply-told : {g : Grounds} {k b : ℕ} → o ≡ refused g → grounds k b ≡ g → reply k other b ≡ replyOf other p
-  reply-told h t = ap (λ (w : Grounds). replyOf other (refused w)) t ∙ ap (replyOf other) (sym h ∙ e)
+  pub told-refused : {g : Grounds} {k b : ℕ} → o ≡ refused g → grounds k b ≡ g → told k b ≡ toldOf o
+  told-refused h t = ap (λ (w : Grounds). toldOf {A = A} (refused w)) t ∙ ap toldOf (sym h)
 
--- the same where the call may change lent bytes, which are bs after it
-module _ {o : Outcome Unit} {bs : List ℕ} {p : Ran (List ℕ) Unit} (e : record { outcome = o; state = bs } ≡ p) where
-  pub running-taken : o ≡ taken tt → running 0 0 bs ≡ runningOf p
-  running-taken h = ap (λ (w : Outcome Unit). runningOf (record { outcome = w; state = bs })) (sym h) ∙ ap runningOf e
+  pub reply-taken : (other : A) {a : A} → o ≡ taken a → reply 0 a 0 ≡ replyOf other o
+  reply-taken other h = ap (replyOf other) (sym h)
 
-  pub running-told : {g : Grounds} {k b : ℕ} → o ≡ refused g → grounds k b ≡ g → running k b bs ≡ runningOf p
-  running-told h t =
-      ap (λ (w : Grounds). runningOf {A = Unit} (record { outcome = refused w; state = bs })) t
-      ∙ ap (λ (w : Outcome Unit). runningOf (record { outcome = w; state = bs })) (sym h)
-      ∙ ap runningOf e
+  pub reply-refused : (other : A) {g : Grounds} {k b : ℕ} → o ≡ refused g → grounds k b ≡ g → reply k other b ≡ replyOf other o
+  reply-refused other h t = ap (λ (w : Grounds). replyOf other (refused w)) t ∙ ap (replyOf other) (sym h)
+
+-- a call over a state, which is s after it: p is what its contract says, o what its answer means
+module _ {o : Outcome Unit} {s : List ℕ} {p : Ran (List ℕ) Unit} (e : record { outcome = o; state = s } ≡ p) where
+  pub running-as : {k b : ℕ} → told k b ≡ toldOf o → running k b s ≡ runningOf p
+  running-as t = ap (λ (w : Told). record { told = w; bytes = s }) t ∙ ap runningOf e
+
+module _ {A : Type 0} {o : Outcome A} {place : Place} {log : List ℕ} {p : Ran Standing A} (e : record { outcome = o; state = standing place log } ≡ p) where
+  pub moved-as : {k b : ℕ} → told k b ≡ toldOf o → moved k b (place .pos) (place .count) log ≡ movedOf p
+  moved-as t = ap (λ (w : Told). record { told = w; pos = place .pos; count = place .count; log = log }) t ∙ ap movedOf e
+
+  pub stood-as : (other : A) {k b : ℕ} {v : A} → reply k v b ≡ replyOf other o → stood k v b (place .pos) (place .count) log ≡ stoodOf other p
+  stood-as other t = ap (λ (w : Reply A). record { reply = w; pos = place .pos; count = place .count; log = log }) t ∙ ap (stoodOf other) e
+
+module _ {o : Outcome ℕ} {place : Place} {p : Ran Place ℕ} (e : record { outcome = o; state = place } ≡ p) where
+  pub advanced-as : {k v b : ℕ} → reply k v b ≡ replyOf 0 o → advanced k v b (place .pos) ≡ advancedOf p
+  advanced-as t = ap (λ (w : Reply ℕ). record { reply = w; pos = place .pos }) t ∙ ap advancedOf e
+
+-- a state that ends at one position, whether the call is taken or refused
+settled : (s s′ : Standing) (o : Outcome Unit) → s′ .place .pos ≡ s .place .pos → settle s s′ o .state .place .pos ≡ s .place .pos
+settled s s′ (taken a) e = e
+settled s s′ (refused g) e = refl
+
+-- closing a span leaves the cursor where it is
+pub close-stays : (len : ℕ) (st : Standing) (name : ℕ) (role : Role) (start : ℕ) → closeOf len st name role start .state .place .pos ≡ st .place .pos
+unfolding closeOf
+close-stays len st name role start = settled st _ (closes len (length (st .log)) (st .place) start) refl

@@ -6,7 +6,8 @@ use contract.Lifetimes.{Lfts}
 use borrow.Fn.Kinds.{Dens, endedOf}
 use denote.Triple.Clauses.{AtExit}
 use denote.Ref.{now}
-use Rattle.capi.specs.Replies.{reply, running}
+use Rattle.capi.specs.Replies.{told, reply, running}
+use Rattle.capi.specs.Standings.{stood, moved, advanced, fields}
 use Rattle.capi.proofs.zela_bits_get.Kinds as get-kinds
 use Rattle.capi.proofs.zela_bits_get.Reads as get-reads
 use Rattle.capi.proofs.zela_bits_set.Kinds as set-kinds
@@ -19,25 +20,47 @@ use Rattle.capi.proofs.zela_crc16.Kinds as crc16-kinds
 use Rattle.capi.proofs.zela_crc16.Reads as crc16-reads
 use Rattle.capi.proofs.zela_crc16_zeros.Kinds as zeros-kinds
 use Rattle.capi.proofs.zela_crc16_zeros.Reads as zeros-reads
+use Rattle.capi.proofs.zela_role_is_drc.Kinds as is-drc-kinds
+use Rattle.capi.proofs.zela_role_is_drc.Reads as is-drc-reads
+use Rattle.capi.proofs.zela_role_is_checksum.Kinds as is-checksum-kinds
+use Rattle.capi.proofs.zela_role_is_checksum.Reads as is-checksum-reads
+use Rattle.capi.proofs.zela_role_is_span.Kinds as is-span-kinds
+use Rattle.capi.proofs.zela_role_is_span.Reads as is-span-reads
+use Rattle.capi.proofs.zela_read_element.Kinds as read-element-kinds
+use Rattle.capi.proofs.zela_read_element.Reads as read-element-reads
+use Rattle.capi.proofs.zela_read_raw.Kinds as read-raw-kinds
+use Rattle.capi.proofs.zela_read_raw.Reads as read-raw-reads
+use Rattle.capi.proofs.zela_span.Kinds as span-kinds
+use Rattle.capi.proofs.zela_span.Reads as span-reads
+use Rattle.capi.proofs.zela_close_span.Kinds as close-span-kinds
+use Rattle.capi.proofs.zela_close_span.Reads as close-span-reads
+use Rattle.capi.proofs.zela_check_tiling.Kinds as check-tiling-kinds
+use Rattle.capi.proofs.zela_check_tiling.Reads as check-tiling-reads
+use Rattle.capi.proofs.zela_element_at.Kinds as element-at-kinds
+use Rattle.capi.proofs.zela_element_at.Reads as element-at-reads
 
 pub get-one : (κs : Lfts 3) (a : Dens κs get-kinds.ps) (x y : ℕ) (s t : AtExit (endedOf 3 get-kinds.ps get-kinds.r) κs)
     → get-reads.Post κs a x s → get-reads.Post κs a y t
-    → reply x (now (s .1 .1 .1 .0)) (now (s .1 .1 .1 .1 .0)) ≡ reply y (now (t .1 .1 .1 .0)) (now (t .1 .1 .1 .1 .0))
+    → reply x (now (s .1 .1 .1 .0)) (now (s .1 .1 .1 .1 .0))
+    ≡ reply y (now (t .1 .1 .1 .0)) (now (t .1 .1 .1 .1 .0))
 get-one κs a x y s t p q = p ∙ sym q
 
 pub set-one : (κs : Lfts 2) (a : Dens κs set-kinds.ps) (x y : ℕ) (s t : AtExit (endedOf 2 set-kinds.ps set-kinds.r) κs)
     → set-reads.Post κs a x s → set-reads.Post κs a y t
-    → running x (now (s .1 .1 .1 .1 .0)) (now (s .0)) ≡ running y (now (t .1 .1 .1 .1 .0)) (now (t .0))
+    → running x (now (s .1 .1 .1 .1 .0)) (now (s .0))
+    ≡ running y (now (t .1 .1 .1 .1 .0)) (now (t .0))
 set-one κs a x y s t p q = p ∙ sym q
 
 pub range-eq-one : (κs : Lfts 4) (a : Dens κs range-eq-kinds.ps) (x y : ℕ) (s t : AtExit (endedOf 4 range-eq-kinds.ps range-eq-kinds.r) κs)
     → range-eq-reads.Post κs a x s → range-eq-reads.Post κs a y t
-    → reply x (now (s .1 .1 .1 .1 .1 .0)) (now (s .1 .1 .1 .1 .1 .1 .0)) ≡ reply y (now (t .1 .1 .1 .1 .1 .0)) (now (t .1 .1 .1 .1 .1 .1 .0))
+    → reply x (now (s .1 .1 .1 .1 .1 .0)) (now (s .1 .1 .1 .1 .1 .1 .0))
+    ≡ reply y (now (t .1 .1 .1 .1 .1 .0)) (now (t .1 .1 .1 .1 .1 .1 .0))
 range-eq-one κs a x y s t p q = p ∙ sym q
 
 pub range-zero-one : (κs : Lfts 3) (a : Dens κs range-zero-kinds.ps) (x y : ℕ) (s t : AtExit (endedOf 3 range-zero-kinds.ps range-zero-kinds.r) κs)
     → range-zero-reads.Post κs a x s → range-zero-reads.Post κs a y t
-    → reply x (now (s .1 .1 .1 .0)) (now (s .1 .1 .1 .1 .0)) ≡ reply y (now (t .1 .1 .1 .0)) (now (t .1 .1 .1 .1 .0))
+    → reply x (now (s .1 .1 .1 .0)) (now (s .1 .1 .1 .1 .0))
+    ≡ reply y (now (t .1 .1 .1 .0)) (now (t .1 .1 .1 .1 .0))
 range-zero-one κs a x y s t p q = p ∙ sym q
 
 pub crc16-one : (κs : Lfts 2) (a : Dens κs crc16-kinds.ps) (x y : ℕ) (s t : AtExit (endedOf 2 crc16-kinds.ps crc16-kinds.r) κs)
@@ -49,3 +72,54 @@ pub zeros-one : (κs : Lfts 1) (a : Dens κs zeros-kinds.ps) (x y : ℕ) (s t : 
     → zeros-reads.Post κs a x s → zeros-reads.Post κs a y t
     → (x ≡ y) × (now (s .1 .1 .0) ≡ now (t .1 .1 .0))
 zeros-one κs a x y s t p q = (p .0 ∙ sym (q .0), p .1 ∙ sym (q .1))
+
+pub is-drc-one : (κs : Lfts 1) (a : Dens κs is-drc-kinds.ps) (x y : ℕ) (s t : AtExit (endedOf 1 is-drc-kinds.ps is-drc-kinds.r) κs)
+    → is-drc-reads.Post κs a x s → is-drc-reads.Post κs a y t
+    → (x ≡ y) × (now (s .1 .0) ≡ now (t .1 .0))
+is-drc-one κs a x y s t p q = (p .0 ∙ sym (q .0), p .1 ∙ sym (q .1))
+
+pub is-checksum-one : (κs : Lfts 1) (a : Dens κs is-checksum-kinds.ps) (x y : ℕ) (s t : AtExit (endedOf 1 is-checksum-kinds.ps is-checksum-kinds.r) κs)
+    → is-checksum-reads.Post κs a x s → is-checksum-reads.Post κs a y t
+    → (x ≡ y) × (now (s .1 .0) ≡ now (t .1 .0))
+is-checksum-one κs a x y s t p q = (p .0 ∙ sym (q .0), p .1 ∙ sym (q .1))
+
+pub is-span-one : (κs : Lfts 1) (a : Dens κs is-span-kinds.ps) (x y : ℕ) (s t : AtExit (endedOf 1 is-span-kinds.ps is-span-kinds.r) κs)
+    → is-span-reads.Post κs a x s → is-span-reads.Post κs a y t
+    → (x ≡ y) × (now (s .1 .0) ≡ now (t .1 .0))
+is-span-one κs a x y s t p q = (p .0 ∙ sym (q .0), p .1 ∙ sym (q .1))
+
+pub read-element-one : (κs : Lfts 6) (a : Dens κs read-element-kinds.ps) (x y : ℕ) (s t : AtExit (endedOf 6 read-element-kinds.ps read-element-kinds.r) κs)
+    → read-element-reads.Post κs a x s → read-element-reads.Post κs a y t
+    → stood x (now (s .1 .1 .1 .1 .1 .1 .1 .1 .1 .1 .0)) (now (s .1 .1 .1 .1 .1 .1 .1 .1 .1 .1 .1 .0)) (now (s .1 .1 .0)) (now (s .1 .1 .1 .1 .1 .0)) (now (s .1 .0))
+    ≡ stood y (now (t .1 .1 .1 .1 .1 .1 .1 .1 .1 .1 .0)) (now (t .1 .1 .1 .1 .1 .1 .1 .1 .1 .1 .1 .0)) (now (t .1 .1 .0)) (now (t .1 .1 .1 .1 .1 .0)) (now (t .1 .0))
+read-element-one κs a x y s t p q = p ∙ sym q
+
+pub read-raw-one : (κs : Lfts 4) (a : Dens κs read-raw-kinds.ps) (x y : ℕ) (s t : AtExit (endedOf 4 read-raw-kinds.ps read-raw-kinds.r) κs)
+    → read-raw-reads.Post κs a x s → read-raw-reads.Post κs a y t
+    → advanced x (now (s .1 .1 .1 .1 .0)) (now (s .1 .1 .1 .1 .1 .0)) (now (s .1 .0))
+    ≡ advanced y (now (t .1 .1 .1 .1 .0)) (now (t .1 .1 .1 .1 .1 .0)) (now (t .1 .0))
+read-raw-one κs a x y s t p q = p ∙ sym q
+
+pub span-one : (κs : Lfts 5) (a : Dens κs span-kinds.ps) (x y : ℕ) (s t : AtExit (endedOf 5 span-kinds.ps span-kinds.r) κs)
+    → span-reads.Post κs a x s → span-reads.Post κs a y t
+    → moved x (now (s .1 .1 .1 .1 .1 .1 .1 .1 .1 .0)) (now (s .1 .1 .0)) (now (s .1 .1 .1 .1 .1 .0)) (now (s .1 .0))
+    ≡ moved y (now (t .1 .1 .1 .1 .1 .1 .1 .1 .1 .0)) (now (t .1 .1 .0)) (now (t .1 .1 .1 .1 .1 .0)) (now (t .1 .0))
+span-one κs a x y s t p q = p ∙ sym q
+
+pub close-span-one : (κs : Lfts 4) (a : Dens κs close-span-kinds.ps) (x y : ℕ) (s t : AtExit (endedOf 4 close-span-kinds.ps close-span-kinds.r) κs)
+    → close-span-reads.Post κs a x s → close-span-reads.Post κs a y t
+    → moved x (now (s .1 .1 .1 .1 .1 .1 .1 .1 .1 .0)) (a .1 .1 .0) (now (s .1 .1 .1 .1 .1 .0)) (now (s .1 .0))
+    ≡ moved y (now (t .1 .1 .1 .1 .1 .1 .1 .1 .1 .0)) (a .1 .1 .0) (now (t .1 .1 .1 .1 .1 .0)) (now (t .1 .0))
+close-span-one κs a x y s t p q = p ∙ sym q
+
+pub check-tiling-one : (κs : Lfts 2) (a : Dens κs check-tiling-kinds.ps) (x y : ℕ) (s t : AtExit (endedOf 2 check-tiling-kinds.ps check-tiling-kinds.r) κs)
+    → check-tiling-reads.Post κs a x s → check-tiling-reads.Post κs a y t
+    → told x (now (s .1 .1 .1 .0))
+    ≡ told y (now (t .1 .1 .1 .0))
+check-tiling-one κs a x y s t p q = p ∙ sym q
+
+pub element-at-one : (κs : Lfts 9) (a : Dens κs element-at-kinds.ps) (x y : ℕ) (s t : AtExit (endedOf 9 element-at-kinds.ps element-at-kinds.r) κs)
+    → element-at-reads.Post κs a x s → element-at-reads.Post κs a y t
+    → reply x (fields (now (s .1 .1 .1 .0)) (now (s .1 .1 .1 .1 .0)) (now (s .1 .1 .1 .1 .1 .0)) (now (s .1 .1 .1 .1 .1 .1 .0)) (now (s .1 .1 .1 .1 .1 .1 .1 .0)) (now (s .1 .1 .1 .1 .1 .1 .1 .1 .0)) (now (s .1 .1 .1 .1 .1 .1 .1 .1 .1 .0))) (now (s .1 .1 .1 .1 .1 .1 .1 .1 .1 .1 .0))
+    ≡ reply y (fields (now (t .1 .1 .1 .0)) (now (t .1 .1 .1 .1 .0)) (now (t .1 .1 .1 .1 .1 .0)) (now (t .1 .1 .1 .1 .1 .1 .0)) (now (t .1 .1 .1 .1 .1 .1 .1 .0)) (now (t .1 .1 .1 .1 .1 .1 .1 .1 .0)) (now (t .1 .1 .1 .1 .1 .1 .1 .1 .1 .0))) (now (t .1 .1 .1 .1 .1 .1 .1 .1 .1 .1 .0))
+element-at-one κs a x y s t p q = p ∙ sym q

@@ -19,7 +19,18 @@ abbrev pub valueOr : {A : Type 0} → A → Outcome A → A
 valueOr other (taken a) = a
 valueOr other (refused g) = other
 
--- what a caller is left with: the number answered, and the rooms for value and bit
+-- what a caller is told: the number answered, and the room for the bit
+pub record Told : Type 0 where
+  pub code : ℕ
+  pub bit : ℕ
+
+abbrev pub told : ℕ → ℕ → Told
+told k b = record { code = k; bit = b }
+
+abbrev pub toldOf : {A : Type 0} → Outcome A → Told
+toldOf o = told (codeOf o) (bitOf o)
+
+-- the same with a value
 pub record Reply (A : Type 0) : Type 0 where
   pub code : ℕ
   pub value : A
@@ -33,12 +44,11 @@ replyOf other o = reply (codeOf o) (valueOr other o) (bitOf o)
 
 -- the same of a call that changes lent bytes, and gives no value
 pub record Running : Type 0 where
-  pub code : ℕ
-  pub bit : ℕ
+  pub told : Told
   pub bytes : List ℕ
 
 abbrev pub running : ℕ → ℕ → List ℕ → Running
-running k b bs = record { code = k; bit = b; bytes = bs }
+running k b bs = record { told = told k b; bytes = bs }
 
 abbrev pub runningOf : {A : Type 0} → Ran (List ℕ) A → Running
-runningOf r = running (codeOf (r .outcome)) (bitOf (r .outcome)) (r .state)
+runningOf r = record { told = toldOf (r .outcome); bytes = r .state }

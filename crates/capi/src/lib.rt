@@ -7,13 +7,20 @@ use bits::Got;
 use bits::Judged;
 use bits::Put;
 use refusal::Refusal;
+use syntax::Ask;
+use syntax::Found;
+use syntax::Place;
 ghost use mathlib.Core.Path.{_≡_};
 ghost use mathlib.Core.Bool.{false};
+ghost use lib.ListN.{length, replicate};
 ghost use Rattle.refusal.specs.Refusals.{grounds, groundsOf};
-ghost use Rattle.bits.specs.Answers.{getOf, setOf, rangeEqOf, rangeZeroOf};
-ghost use lib.ListN.{replicate};
+ghost use Rattle.bits.specs.Answers.{gotOf, doneOf, judgedOf, getOf, setOf, rangeEqOf, rangeZeroOf};
 ghost use Rattle.crc.specs.Crc.{crcOf};
-ghost use Rattle.capi.specs.Replies.{reply, replyOf, running, runningOf};
+ghost use Rattle.syntax.specs.Elements.{roleOf, isDrc, isChecksum, isSpan};
+ghost use Rattle.syntax.specs.Reads.{standing, readOf, rawOf, spanOf, closeOf};
+ghost use Rattle.syntax.specs.Tiling.{tilingOf, elementAt};
+ghost use Rattle.capi.specs.Replies.{reply, replyOf, told, toldOf, running, runningOf};
+ghost use Rattle.capi.specs.Standings.{placeOf, barePlaceOf, askOf, stood, stoodOf, moved, movedOf, advanced, advancedOf, fields, fieldsAt, noFields};
 
 // A refusal's number, with its bit in the room for it.
 fn tell(r: Refusal, bit: &mut usize) -> u8
@@ -22,6 +29,53 @@ fn tell(r: Refusal, bit: &mut usize) -> u8
     *bit = r.bit;
     let why = r.why;
     refusal::number(why)
+}
+
+// What a call answers that gives no value.
+fn done(answer: Put, bit: &mut usize) -> u8
+    ensures { λ k. ⌜ told k (now (bit .exit)) ≡ toldOf (doneOf answer) ⌝ }
+{
+    match answer {
+        Put::Done => {
+            *bit = 0;
+            0
+        }
+        Put::Refused(r) => tell(r, bit),
+    }
+}
+
+// What a read answers.
+fn got(answer: Got, value: &mut u32, bit: &mut usize) -> u8
+    ensures { λ k. ⌜ reply k (now (value .exit)) (now (bit .exit)) ≡ replyOf 0 (gotOf answer) ⌝ }
+{
+    match answer {
+        Got::Value(v) => {
+            *value = v;
+            *bit = 0;
+            0
+        }
+        Got::Refused(r) => {
+            *value = 0;
+            tell(r, bit)
+        }
+    }
+}
+
+// What a comparison answers.
+fn judged(answer: Judged, is: &mut bool, bit: &mut usize) -> u8
+    ensures { λ k. ⌜ reply k (now (is .exit)) (now (bit .exit)) ≡ replyOf false (judgedOf answer) ⌝ }
+{
+    match answer {
+        Judged::Is(t) => {
+            *is = t;
+            *bit = 0;
+            0
+        }
+        Judged::Refused(r) => {
+            *is = false;
+            tell(r, bit)
+        }
+    }
 }
 
 // bits::get.
@@ -35,17 +89,7 @@ pub extern "C" fn zela_bits_get(
 ) -> u8
     ensures { λ k. ⌜ reply k (now (value .exit)) (now (bit .exit)) ≡ replyOf 0 (getOf (now (bytes .entry)) pos n) ⌝ }
 {
-    match bits::get(bytes, pos, n) {
-        Got::Value(v) => {
-            *value = v;
-            *bit = 0;
-            0
-        }
-        Got::Refused(r) => {
-            *value = 0;
-            tell(r, bit)
-        }
-    }
+    got(bits::get(bytes, pos, n), value, bit)
 }
 
 // bits::set.
@@ -59,13 +103,7 @@ pub extern "C" fn zela_bits_set(
 ) -> u8
     ensures { λ k. ⌜ running k (now (bit .exit)) (now (bytes .exit)) ≡ runningOf (setOf (now (bytes .entry)) pos n value) ⌝ }
 {
-    match bits::set(bytes, pos, n, value) {
-        Put::Done => {
-            *bit = 0;
-            0
-        }
-        Put::Refused(r) => tell(r, bit),
-    }
+    done(bits::set(bytes, pos, n, value), bit)
 }
 
 // bits::range_eq.
@@ -81,17 +119,7 @@ pub extern "C" fn zela_bits_range_eq(
 ) -> u8
     ensures { λ k. ⌜ reply k (now (is .exit)) (now (bit .exit)) ≡ replyOf false (rangeEqOf (now (x .entry)) a (now (y .entry)) b n) ⌝ }
 {
-    match bits::range_eq(x, a, y, b, n) {
-        Judged::Is(t) => {
-            *is = t;
-            *bit = 0;
-            0
-        }
-        Judged::Refused(r) => {
-            *is = false;
-            tell(r, bit)
-        }
-    }
+    judged(bits::range_eq(x, a, y, b, n), is, bit)
 }
 
 // bits::range_zero.
@@ -105,17 +133,7 @@ pub extern "C" fn zela_bits_range_zero(
 ) -> u8
     ensures { λ k. ⌜ reply k (now (is .exit)) (now (bit .exit)) ≡ replyOf false (rangeZeroOf (now (x .entry)) a n) ⌝ }
 {
-    match bits::range_zero(x, a, n) {
-        Judged::Is(t) => {
-            *is = t;
-            *bit = 0;
-            0
-        }
-        Judged::Refused(r) => {
-            *is = false;
-            tell(r, bit)
-        }
-    }
+    judged(bits::range_zero(x, a, n), is, bit)
 }
 
 // crc::crc16.
@@ -134,4 +152,201 @@ pub extern "C" fn zela_crc16_zeros(init: u16, n: usize, value: &mut u16) -> u8
 {
     *value = crc::zeros(init, n);
     0
+}
+
+// syntax::is_drc, of the role of a word.
+#[no_mangle]
+pub extern "C" fn zela_role_is_drc(role: u32, is: &mut bool) -> u8
+    ensures { λ k. ⌜ (k ≡ 0) × (now (is .exit) ≡ isDrc (roleOf role)) ⌝ }
+{
+    *is = syntax::is_drc(syntax::role_of(role));
+    0
+}
+
+// syntax::is_checksum, of the role of a word.
+#[no_mangle]
+pub extern "C" fn zela_role_is_checksum(role: u32, is: &mut bool) -> u8
+    ensures { λ k. ⌜ (k ≡ 0) × (now (is .exit) ≡ isChecksum (roleOf role)) ⌝ }
+{
+    *is = syntax::is_checksum(syntax::role_of(role));
+    0
+}
+
+// syntax::is_span, of the role of a word.
+#[no_mangle]
+pub extern "C" fn zela_role_is_span(role: u32, is: &mut bool) -> u8
+    ensures { λ k. ⌜ (k ≡ 0) × (now (is .exit) ≡ isSpan (roleOf role)) ⌝ }
+{
+    *is = syntax::is_span(syntax::role_of(role));
+    0
+}
+
+// A cursor from a caller's numbers.
+fn place_of(pos: usize, limit: usize, block: i8, count: usize) -> Place
+    ensures { λ r. ⌜ r ≡ placeOf pos limit block count ⌝ }
+{
+    Place {
+        pos,
+        limit,
+        block,
+        count,
+    }
+}
+
+// An element that is asked for, from a caller's numbers.
+fn ask_of(name: u32, role: u32, index: i16, width: usize) -> Ask
+    ensures { λ r. ⌜ r ≡ askOf name role index width ⌝ }
+{
+    Ask {
+        name,
+        role: syntax::role_of(role),
+        index,
+        width,
+    }
+}
+
+// syntax::read_element.
+#[no_mangle]
+pub extern "C" fn zela_read_element(
+    frame: &[u8],
+    log: &mut [u32],
+    pos: &mut usize,
+    limit: usize,
+    block: i8,
+    count: &mut usize,
+    name: u32,
+    role: u32,
+    index: i16,
+    width: usize,
+    value: &mut u32,
+    bit: &mut usize,
+) -> u8
+    ensures { λ k. ⌜ stood k (now (value .exit)) (now (bit .exit)) (now (pos .exit)) (now (count .exit)) (now (log .exit)) ≡ stoodOf 0 (readOf (now (frame .entry)) (standing (placeOf (now (pos .entry)) limit block (now (count .entry))) (now (log .entry))) (askOf name role index width)) ⌝ }
+{
+    let place = place_of(*pos, limit, block, *count);
+    let ask = ask_of(name, role, index, width);
+    let read = syntax::read_element(frame, log, place, ask);
+    *pos = read.place.pos;
+    *count = read.place.count;
+    let answer = read.answer;
+    got(answer, value, bit)
+}
+
+// syntax::read_raw. It looks at no block and no count.
+#[no_mangle]
+pub extern "C" fn zela_read_raw(
+    frame: &[u8],
+    pos: &mut usize,
+    limit: usize,
+    width: usize,
+    value: &mut u32,
+    bit: &mut usize,
+) -> u8
+    ensures { λ k. ⌜ advanced k (now (value .exit)) (now (bit .exit)) (now (pos .exit)) ≡ advancedOf (rawOf (now (frame .entry)) (barePlaceOf (now (pos .entry)) limit) width) ⌝ }
+{
+    let place = place_of(*pos, limit, 0, 0);
+    let read = syntax::read_raw(frame, place, width);
+    *pos = read.place.pos;
+    let answer = read.answer;
+    got(answer, value, bit)
+}
+
+// syntax::span.
+#[no_mangle]
+pub extern "C" fn zela_span(
+    frame: &[u8],
+    log: &mut [u32],
+    pos: &mut usize,
+    limit: usize,
+    block: i8,
+    count: &mut usize,
+    name: u32,
+    role: u32,
+    width: usize,
+    bit: &mut usize,
+) -> u8
+    ensures { λ k. ⌜ moved k (now (bit .exit)) (now (pos .exit)) (now (count .exit)) (now (log .exit)) ≡ movedOf (spanOf (length (now (frame .entry))) (standing (placeOf (now (pos .entry)) limit block (now (count .entry))) (now (log .entry))) name (roleOf role) width) ⌝ }
+{
+    let place = place_of(*pos, limit, block, *count);
+    let spanned = syntax::span(frame, log, place, name, syntax::role_of(role), width);
+    *pos = spanned.place.pos;
+    *count = spanned.place.count;
+    let answer = spanned.answer;
+    done(answer, bit)
+}
+
+// syntax::close_span.
+#[no_mangle]
+pub extern "C" fn zela_close_span(
+    frame: &[u8],
+    log: &mut [u32],
+    pos: usize,
+    limit: usize,
+    block: i8,
+    count: &mut usize,
+    name: u32,
+    role: u32,
+    start: usize,
+    bit: &mut usize,
+) -> u8
+    ensures { λ k. ⌜ moved k (now (bit .exit)) pos (now (count .exit)) (now (log .exit)) ≡ movedOf (closeOf (length (now (frame .entry))) (standing (placeOf pos limit block (now (count .entry))) (now (log .entry))) name (roleOf role) start) ⌝ }
+{
+    let place = place_of(pos, limit, block, *count);
+    let closed = syntax::close_span(frame, log, place, name, syntax::role_of(role), start);
+    *count = closed.place.count;
+    let answer = closed.answer;
+    done(answer, bit)
+}
+
+// syntax::check_tiling.
+#[no_mangle]
+pub extern "C" fn zela_check_tiling(log: &[u32], count: usize, total: usize, bit: &mut usize) -> u8
+    ensures { λ k. ⌜ told k (now (bit .exit)) ≡ toldOf (tilingOf (now (log .entry)) count total) ⌝ }
+{
+    done(syntax::check_tiling(log, count, total), bit)
+}
+
+// syntax::element_at, field by field.
+#[no_mangle]
+pub extern "C" fn zela_element_at(
+    log: &[u32],
+    count: usize,
+    k: usize,
+    name: &mut u32,
+    role: &mut u32,
+    block: &mut i8,
+    index: &mut i16,
+    pos: &mut u32,
+    width: &mut u32,
+    value: &mut u32,
+    bit: &mut usize,
+) -> u8
+    ensures { λ c. ⌜ reply c (fields (now (name .exit)) (now (role .exit)) (now (block .exit)) (now (index .exit)) (now (pos .exit)) (now (width .exit)) (now (value .exit))) (now (bit .exit)) ≡ replyOf noFields (fieldsAt (elementAt (now (log .entry)) count k)) ⌝ }
+{
+    match syntax::element_at(log, count, k) {
+        Found::Is(e) => {
+            let held = e.role;
+            let in_block = e.block;
+            let at_index = e.index;
+            *name = e.name;
+            *role = syntax::role_word(held);
+            *block = in_block;
+            *index = at_index;
+            *pos = e.pos;
+            *width = e.width;
+            *value = e.value;
+            *bit = 0;
+            0
+        }
+        Found::Refused(r) => {
+            *name = 0;
+            *role = 0;
+            *block = 0;
+            *index = 0;
+            *pos = 0;
+            *width = 0;
+            *value = 0;
+            tell(r, bit)
+        }
+    }
 }

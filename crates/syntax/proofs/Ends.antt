@@ -1,0 +1,95 @@
+-- The ends of a read, a span, a closing and the sticky reader: what each comes to once its tests are known.
+-- Assumes nothing.
+use Prim.Native.Nat.{ℕ, _+_, _-_, _≤_}
+use mathlib.Core.Path.{_≡_, refl, sym, ap, _∙_}
+use mathlib.Core.List.{List}
+use mathlib.Core.Bool.{Bool, true, false, cond}
+use lib.ListN.{length}
+use lib.Dec.{ltb}
+use borrow.Author.Tests.{le-ltb}
+use Rattle.refusal.specs.Refusals.{Grounds, Outcome, taken, refused, andThen, Ran, settle, follow}
+use Rattle.refusal.proofs.Laws.{never, settle-stays, settle-moves, run-stops}
+use Rattle.bits.specs.Bits.{bitsAt}
+use Rattle.syntax.specs.declared.Role.{Role}
+use Rattle.syntax.specs.declared.Ask.{Ask}
+use Rattle.syntax.specs.declared.Place.{Place}
+use Rattle.syntax.specs.declared.Reader.{Reader}
+use Rattle.syntax.specs.Reads.{Standing, standing, fits, elementOf, logged, readOf, spanAsk, spanOf, closes, closeOf, nextOf, seenOf, readerOf}
+use Rattle.syntax.proofs.Bools.{clash}
+
+module _ {S A : Type 0} (s s′ : S) where
+  -- a test, and then tests that give no value
+  then-taken : (test : Bool) (g : Grounds) (o : Outcome Unit) (v : A) → test ≡ false → o ≡ taken tt
+      → settle s s′ (cond test (refused g) (andThen o (λ _. taken v))) ≡ record { outcome = taken v; state = s′ }
+  then-taken true g o v e f = clash e
+  then-taken false g (taken x) v e f = refl
+  then-taken false g (refused h) v e f = never f
+
+  then-refused : (test : Bool) (g : Grounds) (o : Outcome Unit) (v : A) {h : Grounds} → test ≡ false → o ≡ refused h
+      → settle s s′ (cond test (refused g) (andThen o (λ _. taken v))) ≡ record { outcome = refused h; state = s }
+  then-refused true g o v e f = clash e
+  then-refused false g (taken x) v e f = never (sym f)
+  then-refused false g (refused k) v e f =
+      ap (λ (o : Outcome Unit). settle s s′ (andThen o (λ _. taken v))) f
+
+-- the two ends of a read whose width is at most 32
+module _ (frame : List ℕ) (st : Standing) (a : Ask) (narrow : a .width ≤ 32) where
+  pub read-on : (v : ℕ) → v ≡ bitsAt frame (st .place .pos) (a .width)
+      → fits (length frame) (length (st .log)) (st .place) (a .width) ≡ taken tt
+      → _≡_ {A = Ran Standing ℕ} (record { outcome = taken v; state = logged st (elementOf (st .place) (st .place .pos) a v) (st .place .pos + a .width) })
+      (readOf frame st a)
+  unfolding readOf
+  read-on v e f = rw e (sym (then-taken _ _ (ltb 32 (a .width)) _ (fits (length frame) (length (st .log)) (st .place) (a .width)) _ (le-ltb 32 (a .width) narrow) f))
+
+  pub read-stops : {g : Grounds} → fits (length frame) (length (st .log)) (st .place) (a .width) ≡ refused g
+      → _≡_ {A = Ran Standing ℕ} (record { outcome = refused g; state = st }) (readOf frame st a)
+  unfolding readOf
+  read-stops f = sym (then-refused _ _ (ltb 32 (a .width)) _ (fits (length frame) (length (st .log)) (st .place) (a .width)) _ (le-ltb 32 (a .width) narrow) f)
+
+-- the two ends of a span
+module _ (len : ℕ) (st : Standing) (name : ℕ) (role : Role) (width : ℕ) where
+  pub span-on : fits len (length (st .log)) (st .place) width ≡ taken tt
+      → _≡_ {A = Ran Standing Unit} (record { outcome = taken tt; state = logged st (elementOf (st .place) (st .place .pos) (spanAsk name role width) 0) (st .place .pos + width) })
+      (spanOf len st name role width)
+  unfolding spanOf
+  span-on f = sym (settle-moves _ _ (fits len (length (st .log)) (st .place) width) f)
+
+  pub span-stops : {g : Grounds} → fits len (length (st .log)) (st .place) width ≡ refused g
+      → _≡_ {A = Ran Standing Unit} (record { outcome = refused g; state = st }) (spanOf len st name role width)
+  unfolding spanOf
+  span-stops f = sym (settle-stays _ _ (fits len (length (st .log)) (st .place) width) f)
+
+-- and of closing one
+module _ (len : ℕ) (st : Standing) (name : ℕ) (role : Role) (start : ℕ) where
+  pub close-on : (next : ℕ) → next ≡ st .place .pos → closes len (length (st .log)) (st .place) start ≡ taken tt
+      → _≡_ {A = Ran Standing Unit}
+      (record { outcome = taken tt; state = logged st (elementOf (st .place) start (spanAsk name role (st .place .pos - start)) 0) next })
+      (closeOf len st name role start)
+  unfolding closeOf
+  close-on next e f = rw e (sym (settle-moves _ _ (closes len (length (st .log)) (st .place) start) f))
+
+  pub close-stops : {g : Grounds} → closes len (length (st .log)) (st .place) start ≡ refused g
+      → _≡_ {A = Ran Standing Unit} (record { outcome = refused g; state = st }) (closeOf len st name role start)
+  unfolding closeOf
+  close-stops f = sym (settle-stays _ _ (closes len (length (st .log)) (st .place) start) f)
+
+-- the sticky reader: one that was taken reads on, one that is refused stays
+module _ (frame : List ℕ) (a : Ask) where
+  pub next-on : (r : Ran Standing ℕ) {v : ℕ} → r .outcome ≡ taken v → nextOf frame a r ≡ readOf frame (r .state) a
+  unfolding nextOf
+  next-on r e = ap (λ o. follow o (r .state) (λ _ st. readOf frame st a)) e
+
+  pub next-stops : (r : Ran Standing ℕ) {g : Grounds} → r .outcome ≡ refused g
+      → _≡_ {A = Ran Standing ℕ} (record { outcome = refused g; state = r .state }) (nextOf frame a r)
+  unfolding nextOf
+  next-stops r e = run-stops (λ _ st. readOf frame st a) refl e
+
+  pub next-stays : (r : Ran Standing ℕ) {g : Grounds} → r .outcome ≡ refused g → nextOf frame a r ≡ r
+  next-stays r e = sym (next-stops r e) ∙ ap {B = Ran Standing ℕ} (λ o. record { outcome = o; state = r .state }) (sym e)
+
+-- a reader's meaning, by its parts
+pub reader-is : (q : Reader) (log : List ℕ) {p : Place} {o : Outcome ℕ} → q .place ≡ p → seenOf (q .answer) (q .value) ≡ o
+    → readerOf q log ≡ record { outcome = o; state = standing p log }
+reader-is q log {p} e f =
+    ap {B = Ran Standing ℕ} (λ x. record { outcome = seenOf (q .answer) (q .value); state = standing x log }) e
+    ∙ ap {B = Ran Standing ℕ} (λ x. record { outcome = x; state = standing p log }) f

@@ -1,0 +1,13 @@
+pub mod Bools
+pub mod Ends
+pub mod Examples
+pub mod Log
+pub mod ReadBack
+pub mod ReadLaws
+pub mod Reached
+pub mod Roles
+pub mod Signed
+pub mod Tests
+pub mod Tiled
+pub mod Typing
+pub mod Unique

@@ -1,0 +1,32 @@
+-- `syntax::signed_of` meets its contract: the low bits of the word in two's complement.
+-- Assumes nothing.
+use lib.Dec.{lit≤}
+use mir.Syntax.{w16}
+use Rattle.syntax.proofs.Signed.{low-signed, diff-fits, diff-cast, diff-signed}
+use borrow.Author.Needs.{needs}
+use native.Mathlib.Omega.{arith}
+use Rattle.syntax.proofs.signed_of.Statement.{statement}
+use Rattle.syntax.proofs.signed_of.Tie as tie
+
+sub-result : tie.Need-sub-result
+sub-result c = diff-fits w16 (lit≤ tt) (c .before .args .w) (omega arith) (c .if1 .left)
+
+cast-result-3 : tie.Need-cast-result-3
+cast-result-3 c = diff-cast w16 (lit≤ tt) (c .before .args .w) (omega arith) (c .if1 .left)
+
+returns : tie.Need-returns
+returns c = low-signed w16 (lit≤ tt) (c .before .args .w) (c .if1 .taken)
+
+returns-2 : tie.Need-returns-2
+returns-2 c = diff-signed w16 (lit≤ tt) (c .before .args .w) (omega arith) (c .if1 .left)
+
+pub signed-of-spec : {M : Type 1} → statement M
+signed-of-spec =
+    tie.close
+    (tie.spec
+    (λ c. search needs)
+    (λ c. search needs)
+    sub-result
+    cast-result-3
+    returns
+    returns-2)
