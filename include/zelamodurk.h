@@ -100,9 +100,9 @@ uint8_t zela_crc16_zeros(uint16_t init, size_t n, uint16_t *value);
 /* ---- syntax: elements, the log, spans, tiling ---- */
 
 /*
- * THE PLACE. A cursor is five numbers that the caller keeps: pos, its bit; limit, the bit that nothing read may
- * pass; block, the audio block (-1 outside); count, how many elements are logged; and the frame's bytes. A call
- * that reads or logs moves *pos and *count where it is taken, and leaves them as they were where it is refused.
+ * THE PLACE. A cursor over a frame's bytes is four numbers that the caller keeps: pos, its bit; limit, the bit that
+ * nothing read may pass; block, the audio block (-1 outside); count, how many elements are logged. A call that reads
+ * or logs moves *pos and *count where it is taken, and leaves them as they were where it is refused.
  * A place is sound where limit is at most 32,768 and at most 8 * frame_len; pos may be any number.
  *
  * THE LOG. Room of `log_words` words that the caller lends, eight to an element: name, role, block, index, position,

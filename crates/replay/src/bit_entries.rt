@@ -1,12 +1,19 @@
 // Entries of `bits`. Where a field cannot be read, the function is run on zeros in its place, and the rest says that it was not read.
-use crate::fields;
-use crate::fields::Asked;
-use crate::fields::Ran;
 use bits::Got;
 use bits::Judged;
 use bits::Put;
 use refusal::Refusal;
+use text::Ran;
 use text::Rest;
+
+// POS N NUMBER VALUE: n bits from bit pos on, and the answer: 0 or the refusal's number, and the value, 0 where refused.
+struct Asked {
+    pos: usize,
+    n: usize,
+    number: u64,
+    value: u64,
+    rest: Rest,
+}
 
 // POS N V NUMBER: the low n bits of v put from bit pos on, and the answer: 0 or the refusal's number.
 struct ToPut {
@@ -19,9 +26,9 @@ struct ToPut {
 
 // get BYTES POS N NUMBER VALUE
 pub fn get(line: &[u8], rest: Rest) -> Ran {
-    let mut room = fields::room();
+    let mut room = text::room();
     let bytes = text::next_bytes(line, rest, &mut room);
-    let asked = fields::next_asked(line, bytes.rest);
+    let asked = next_asked(line, bytes.rest);
     let count = bytes.count;
     let got = bits::get(&room[..count], asked.pos, asked.n);
     let agrees = is_got(got, asked);
@@ -31,8 +38,8 @@ pub fn get(line: &[u8], rest: Rest) -> Ran {
 
 // set BYTES POS N V NUMBER AFTER
 pub fn set(line: &[u8], rest: Rest) -> Ran {
-    let mut room = fields::room();
-    let mut after_room = fields::room();
+    let mut room = text::room();
+    let mut after_room = text::room();
     let bytes = text::next_bytes(line, rest, &mut room);
     let put = next_put(line, bytes.rest);
     let after = text::next_bytes(line, put.rest, &mut after_room);
@@ -45,12 +52,12 @@ pub fn set(line: &[u8], rest: Rest) -> Ran {
 
 // range_eq X A Y B N NUMBER IS
 pub fn range_eq(line: &[u8], rest: Rest) -> Ran {
-    let mut x_room = fields::room();
-    let mut y_room = fields::room();
+    let mut x_room = text::room();
+    let mut y_room = text::room();
     let x = text::next_bytes(line, rest, &mut x_room);
     let a = text::next_number(line, x.rest, u64::MAX);
     let y = text::next_bytes(line, a.rest, &mut y_room);
-    let asked = fields::next_asked(line, y.rest);
+    let asked = next_asked(line, y.rest);
     let x_count = x.count;
     let y_count = y.count;
     let judged = bits::range_eq(
@@ -67,9 +74,9 @@ pub fn range_eq(line: &[u8], rest: Rest) -> Ran {
 
 // range_zero X A N NUMBER IS
 pub fn range_zero(line: &[u8], rest: Rest) -> Ran {
-    let mut room = fields::room();
+    let mut room = text::room();
     let x = text::next_bytes(line, rest, &mut room);
-    let asked = fields::next_asked(line, x.rest);
+    let asked = next_asked(line, x.rest);
     let count = x.count;
     let judged = bits::range_zero(&room[..count], asked.pos, asked.n);
     let agrees = is_judged(judged, asked);
@@ -88,6 +95,21 @@ fn is_judged(judged: Judged, asked: Asked) -> bool {
     match judged {
         Judged::Is(b) => is_value(b as u64, asked),
         Judged::Refused(r) => is_refused(r, asked),
+    }
+}
+
+fn next_asked(line: &[u8], rest: Rest) -> Asked {
+    let pos = text::next_number(line, rest, u64::MAX);
+    let n = text::next_number(line, pos.rest, u64::MAX);
+    let number = text::next_number(line, n.rest, u64::MAX);
+    let value = text::next_number(line, number.rest, u64::MAX);
+    let rest = value.rest;
+    Asked {
+        pos: pos.value as usize,
+        n: n.value as usize,
+        number: number.value,
+        value: value.value,
+        rest,
     }
 }
 

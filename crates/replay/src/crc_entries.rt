@@ -1,11 +1,10 @@
 // Entries of `crc`, which never refuses.
-use crate::fields;
-use crate::fields::Ran;
+use text::Ran;
 use text::Rest;
 
 // crc16 INIT BYTES VALUE
 pub fn crc16(line: &[u8], rest: Rest) -> Ran {
-    let mut room = fields::room();
+    let mut room = text::room();
     let init = text::next_number(line, rest, 65535);
     let bytes = text::next_bytes(line, init.rest, &mut room);
     let value = text::next_number(line, bytes.rest, 65535);

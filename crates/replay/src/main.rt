@@ -1,10 +1,10 @@
 // Replays recorded answers of the Rust against the proved functions, and says how many agree.
 //
-// A file of data/ holds an entry a line: `lines` says what a line is, `bit_entries` and `crc_entries` what each function's
-// entry holds. A function more is a name and an arm in `functions`, and its runner; a file more is a call more in `main`.
+// A file of data/ holds an entry a line: `lines` says what a line is, `bit_entries`, `crc_entries` and the library
+// `syntax_entries` what each function's entry holds. A function more is a name and an arm in `functions`, and its runner; a
+// file more is a call more in `main`.
 mod bit_entries;
 mod crc_entries;
-mod fields;
 mod functions;
 mod lines;
 mod report;
@@ -15,6 +15,7 @@ fn main() {
     let mut tally = [0u64; tally::PLACES];
     replay_file(b"bits.txt", &mut tally);
     replay_file(b"crc.txt", &mut tally);
+    replay_file(b"syntax.txt", &mut tally);
     report::summary(&tally);
 }
 

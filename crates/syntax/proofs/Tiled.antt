@@ -3,11 +3,12 @@
 use Prim.Native.Nat.{ℕ, zero, suc, _+_, _*_, _≤_, _<_}
 use mathlib.Core.Path.{_≡_, refl, sym, _∙_}
 use mathlib.Core.List.{List}
-use mathlib.Core.Bool.{true, false, _&&_, not}
+use mathlib.Core.Bool.{true, false, not}
 use mathlib.Core.Logic.{_⊎_, ⊎-elim, _↔_}
 use native.Mathlib.Numerals.{add-one}
 use native.Mathlib.Omega.{arith}
 use lib.ListN.{length}
+use lib.Bits.{bitOr, bitXor}
 use lib.Dec.{eqb, ltb}
 use borrow.Author.Tests.{eqb-true, eq-eqb, ltb-false, le-ltb, not-false}
 use Rattle.refusal.specs.Refusals.{taken}
@@ -16,7 +17,7 @@ use Rattle.syntax.specs.declared.Element.{Element}
 use Rattle.syntax.specs.Elements.{written}
 use Rattle.syntax.specs.Reads.{room}
 use Rattle.syntax.specs.Tiling.{posAt, widthAt, endAt, follows, tiles, tilingOf, widths, Reaches, InOne}
-use Rattle.syntax.proofs.Bools.{and-true, fails, lt-or-ge}
+use Rattle.syntax.proofs.Bools.{off-turn, and-true, lt-or-ge}
 use Rattle.syntax.proofs.Log.{written-before, written-at}
 
 -- the test on the first n elements, and what it says of each
@@ -44,24 +45,25 @@ pub end-zero : (log : List ℕ) → endAt log 0 ≡ 0
 unfolding endAt
 end-zero log = refl
 
-pub follows-next : (log : List ℕ) (k : ℕ) → follows log k ≡ true → posAt log k ≡ endAt log k → follows log (k + 1) ≡ true
-unfolding follows
-follows-next log k f e = rw add-one (rw (f, eq-eqb (posAt log k) (endAt log k) e))
-
 pub end-next : (log : List ℕ) (k : ℕ) → endAt log (k + 1) ≡ posAt log k + widthAt log k
 unfolding endAt
 end-next log k = rw add-one
 
--- an element that does not follow the one before it
-pub gap : (log : List ℕ) (n total k : ℕ) → k < n → (posAt log k ≡ endAt log k → ⊥) → false ≡ tiles log n total
-unfolding tiles
-gap log n total k h ne =
-    fails (follows log n && eqb (endAt log n) total) (λ e. ne (follows-each log n (and-true (follows log n) _ e .0) k h))
+-- one element more of a check: `off` is 0 as long as they follow each other
+pub off-next : (log : List ℕ) (k off at : ℕ) → eqb off 0 ≡ follows log k → at ≡ endAt log k
+    → eqb (bitOr off (bitXor (posAt log k) at)) 0 ≡ follows log (k + 1)
+unfolding follows
+off-next log k off at f e = off-turn off (posAt log k) at ∙ rw (f, e, add-one)
 
 -- the end of a check that found no gap
 pub ends-at : (log : List ℕ) (n total k at : ℕ) → k ≡ n → follows log k ≡ true → at ≡ endAt log k → eqb at total ≡ tiles log n total
 unfolding tiles
 ends-at log n total k at e f h = rw (h, ← e, f)
+
+-- the end of one that found a gap
+pub breaks-at : (log : List ℕ) (n total k : ℕ) → k ≡ n → follows log k ≡ false → false ≡ tiles log n total
+unfolding tiles
+breaks-at log n total k e f = rw (← e, f)
 
 -- the test says just that the elements tile
 pub tiles-reaches : (log : List ℕ) (n total : ℕ) → tiles log n total ≡ true → Reaches log n total

@@ -639,22 +639,25 @@ pub fn next(frame: &[u8], log: &mut [u32], reader: Reader, ask: Ask) -> Reader
     }
 }
 
-// Whether the first count elements of the log tile the bits below total.
+// Whether the first count elements of the log tile the bits below total. No bit of `off` is set as long as each element starts
+// where the one before it ends; a loop without an exit on the way is the quicker one.
 fn is_tiled(log: &[u32], count: usize, total: usize) -> bool
     requires { ⌜ (count ≤ 4096) × (8 * count ≤ length (now log)) ⌝ }
     ensures { λ r. ⌜ r ≡ tiles (now (log .entry)) count total ⌝ }
 {
+    let mut off: usize = 0;
     let mut at: usize = 0;
     let mut k = 0;
     while k < count {
         let pos = log[8 * k + 4] as usize;
-        if pos != at {
-            return false;
-        }
+        off = off | (pos ^ at);
         at = pos + log[8 * k + 5] as usize;
         k += 1;
     }
-    at == total
+    if off == 0 {
+        return at == total;
+    }
+    false
 }
 
 // Whether the elements of a log tile the bits below total: 6 for a count past its room, then 18.

@@ -6,6 +6,7 @@ mod rust;
 
 use std::hint::black_box;
 use std::time::Instant;
+use zelamodurk::syntax::{self, names, Place, Role};
 use zelamodurk::{bits, crc};
 
 /// The buffer's bytes, and the calls in a pass of short operations.
@@ -15,17 +16,22 @@ const CALLS: usize = 4096;
 const FRAME: usize = 1792;
 /// The range that is compared.
 const RANGE: usize = 32_000;
+/// The elements of a log, some as many as a frame has, and the width of each.
+const ELEMENTS: usize = 700;
+const WIDTH: usize = 5;
 
 fn main() {
     let (buffer, calls) = inputs();
     println!(
-        "{:<26}{:>12}{:>12}{:>8}{:>8}",
+        "{:<26}{:>12}{:>12}{:>10}{:>8}",
         "operation", "ours, ns", "Rust, ns", "ratio", "limit"
     );
     get(&buffer, &calls);
     set(&buffer, &calls);
     crc16(&buffer);
     range_eq(&buffer);
+    read_element(&buffer);
+    check_tiling(&buffer);
     if zelamodurk::EMULATED {
         println!("the core ran under the kit's emulator here: these times say nothing");
     }
@@ -86,9 +92,9 @@ fn measure(name: &str, limit: f64, calls: usize, mut ours: impl FnMut(), mut rus
     let (best, rusts_best) = (each(best), each(rusts_best));
     if rust::PRESENT {
         let ratio = best / rusts_best;
-        println!("{name:<26}{best:>12.1}{rusts_best:>12.1}{ratio:>8.2}{limit:>8.1}");
+        println!("{name:<26}{best:>12.1}{rusts_best:>12.1}{ratio:>10.2}{limit:>8.1}");
     } else {
-        println!("{name:<26}{best:>12.1}{:>12}{:>8}{limit:>8.1}", "-", "-");
+        println!("{name:<26}{best:>12.1}{:>12}{:>10}{limit:>8.1}", "-", "-");
     }
 }
 
@@ -157,6 +163,68 @@ fn range_eq(buffer: &[u8]) {
         },
         || {
             black_box(rust::range_eq(black_box(x), 3, black_box(y), 3, RANGE));
+        },
+    );
+}
+
+/// A place at the frame's start, and room for the elements.
+fn empty_log(frame: &[u8]) -> (Place, Vec<u32>) {
+    (Place::new(8 * frame.len()), vec![0; 8 * ELEMENTS])
+}
+
+/// Reads and logs the elements from the frame's start on.
+fn read_all(frame: &[u8], log: &mut [u32], place: &mut Place) {
+    for index in 0..ELEMENTS {
+        let ask = syntax::Ask {
+            name: names::EXPS,
+            role: Role::Plain,
+            index: index as i16,
+            width: WIDTH,
+        };
+        let _ = black_box(syntax::read_element(frame, log, place, &ask));
+    }
+}
+
+/// The same by the Rust.
+fn rust_reads_all(reader: &mut rust::Reader) {
+    reader.rewind();
+    for index in 0..ELEMENTS {
+        black_box(reader.read(index as i16, WIDTH));
+    }
+}
+
+/// Both write all elements to a log that has the room, and begin it anew in each pass.
+fn read_element(frame: &[u8]) {
+    let (begin, mut log) = empty_log(frame);
+    let mut reader = rust::Reader::new(frame);
+    measure(
+        "logged read of 5 bits",
+        1.5,
+        ELEMENTS,
+        || {
+            let mut place = begin;
+            read_all(frame, &mut log, &mut place);
+        },
+        || rust_reads_all(&mut reader),
+    );
+}
+
+/// Logs that tile, so that both sides look at every element.
+fn check_tiling(frame: &[u8]) {
+    let (mut place, mut log) = empty_log(frame);
+    read_all(frame, &mut log, &mut place);
+    let mut reader = rust::Reader::new(frame);
+    rust_reads_all(&mut reader);
+    let total = ELEMENTS * WIDTH;
+    measure(
+        "tiling of 700 elements",
+        1.0,
+        1,
+        || {
+            let _ = black_box(syntax::check_tiling(black_box(&log), place.count, total));
+        },
+        || {
+            black_box(black_box(&reader).tiles(total));
         },
     );
 }

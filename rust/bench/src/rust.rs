@@ -6,7 +6,33 @@ pub const PRESENT: bool = cfg!(oracle);
 
 #[cfg(oracle)]
 mod called {
+    use oracle::syntax::{check_contiguous, Cursor, Role};
     use oracle::{bits, crc};
+
+    /// The Rust's cursor over a frame, with room for more fields than are logged.
+    pub struct Reader<'a>(Cursor<'a>);
+
+    impl<'a> Reader<'a> {
+        pub fn new(frame: &'a [u8]) -> Self {
+            Reader(Cursor::new(frame, 8 * frame.len()))
+        }
+
+        /// Back to the frame's start, with nothing logged and the room kept.
+        pub fn rewind(&mut self) {
+            self.0.fields.clear();
+            self.0.pos = 0;
+        }
+
+        #[inline(never)]
+        pub fn read(&mut self, index: i16, width: usize) -> Option<u32> {
+            self.0.get_role("exps", Role::Plain, index, width).ok()
+        }
+
+        #[inline(never)]
+        pub fn tiles(&self, total: usize) -> bool {
+            check_contiguous(&self.0.fields, total).is_ok()
+        }
+    }
 
     #[inline(never)]
     pub fn get(bytes: &[u8], pos: usize, n: usize) -> u32 {
@@ -31,6 +57,24 @@ mod called {
 
 #[cfg(not(oracle))]
 mod called {
+    pub struct Reader;
+
+    impl Reader {
+        pub fn new(_: &[u8]) -> Self {
+            Reader
+        }
+
+        pub fn rewind(&mut self) {}
+
+        pub fn read(&mut self, _: i16, _: usize) -> Option<u32> {
+            None
+        }
+
+        pub fn tiles(&self, _: usize) -> bool {
+            true
+        }
+    }
+
     pub fn get(_: &[u8], _: usize, _: usize) -> u32 {
         0
     }
@@ -46,4 +90,4 @@ mod called {
     }
 }
 
-pub use called::{crc16, get, range_eq, set};
+pub use called::{crc16, get, range_eq, set, Reader};

@@ -1,9 +1,10 @@
 //! What a call answers.
 
-use crate::call::{hex, Call};
+use crate::call::{hex, words_hex, Call};
 use crate::rule;
 use crate::rust;
 use std::fmt;
+use zelamodurk::syntax::{Element, Place};
 
 /// What a call answers and leaves.
 #[derive(Clone, Debug, Default, PartialEq, Eq)]
@@ -16,6 +17,12 @@ pub struct Answer {
     pub value: u32,
     /// The bytes after a set; empty for the other functions.
     pub after: Vec<u8>,
+    /// The cursor's numbers after the call, where it has a cursor.
+    pub place: Option<Place>,
+    /// The log after a call that may log; empty for the other functions.
+    pub log: Vec<u32>,
+    /// The element that was looked at; none where refused.
+    pub element: Option<Element>,
 }
 
 impl Answer {
@@ -28,15 +35,20 @@ impl Answer {
         }
     }
 
-    /// A refused call's answer: nothing found, nothing changed, and no cursor, so the bit is 0.
+    /// A refused call's answer: nothing found, nothing changed. The bit is the cursor's, and 0 where
+    /// there is none.
     fn refused(number: u8, call: &Call) -> Self {
         let after = match call {
             Call::Set { bytes, .. } => bytes.to_vec(),
             _ => Vec::new(),
         };
+        let log = call.standing().map(|from| from.log.to_vec());
         Answer {
             number,
+            bit: call.place().map_or(0, |place| place.pos),
             after,
+            place: call.place(),
+            log: log.unwrap_or_default(),
             ..Self::default()
         }
     }
@@ -49,7 +61,14 @@ impl fmt::Display for Answer {
         write!(
             f,
             "number {number}, bit {bit}, value {value}, bytes {after}"
-        )
+        )?;
+        if let Some(place) = self.place {
+            write!(f, ", {place:?}, log {}", words_hex(&self.log))?;
+        }
+        if let Some(element) = self.element {
+            write!(f, ", {element:?}")?;
+        }
+        Ok(())
     }
 }
 
@@ -80,32 +99,41 @@ impl fmt::Display for By {
     }
 }
 
-/// What document 01 asks of a call: its own refusal, and where it has none the Rust's answer. The
-/// Rust is not asked about a call that is refused.
+/// What document 01 asks of a call: a refusal of its own, where the Rust is not asked, and else the
+/// Rust's answer, which must have document 01's number.
 pub fn expected(call: &Call) -> Result<Answer, String> {
-    match rule::number(call) {
-        0 => of_the_rust(call),
-        number => Ok(Answer::refused(number, call)),
+    let number = rule::number(call);
+    if rule::is_ports_own(call, number) {
+        return Ok(Answer::refused(number, call));
     }
+    let answer = of_the_rust(call)?;
+    if answer.number == number {
+        return Ok(answer);
+    }
+    Err(format!(
+        "the Rust's number is {}, document 01's {number}",
+        answer.number
+    ))
 }
 
 fn of_the_rust(call: &Call) -> Result<Answer, String> {
     let asked = rust::ask(call).ok_or("the Rust is not there")?;
     if asked.panicked {
-        return Err("the Rust panics where document 01 takes the call".to_string());
+        return Err("the Rust panics where document 01 does not refuse the call".to_string());
     }
-    Ok(Answer::taken(asked.value, asked.after))
+    Ok(asked.answer)
 }
 
 /// The expected answer, and who it comes from: here the Rust is asked about every call.
 pub fn witnessed(call: &Call) -> Result<(Answer, By), String> {
     let answer = expected(call)?;
     let asked = rust::ask(call).ok_or("the Rust is not there")?;
-    // The Rust's functions can't refuse, so any answer where document 01 refuses is another one.
-    let by = match (answer.number, asked.panicked) {
-        (0, _) => By::Rust,
-        (_, true) => By::Panics,
-        (_, false) => By::Differs,
+    let by = if asked.panicked {
+        By::Panics
+    } else if asked.answer == answer {
+        By::Rust
+    } else {
+        By::Differs
     };
     Ok((answer, by))
 }

@@ -2,12 +2,62 @@
 
 use std::borrow::Cow;
 use std::fmt;
+use zelamodurk::syntax::{Ask, Place, Role};
 
 /// The functions' names, in the order of [`Call::function`].
-pub const NAMES: [&str; 6] = ["get", "set", "range_eq", "range_zero", "crc16", "zeros"];
+pub const NAMES: [&str; 12] = [
+    "get",
+    "set",
+    "range_eq",
+    "range_zero",
+    "crc16",
+    "zeros",
+    "read_element",
+    "read_raw",
+    "span",
+    "close_span",
+    "check_tiling",
+    "element_at",
+];
 
 /// Bytes that a case lends or owns.
 pub type Bytes<'a> = Cow<'a, [u8]>;
+/// A log's words that a case lends or owns.
+pub type Words<'a> = Cow<'a, [u32]>;
+
+/// What a call that logs is given besides its own: the frame, the log, and where the cursor stands.
+#[derive(Clone, PartialEq, Eq)]
+pub struct Standing<'a> {
+    /// The frame's bytes.
+    pub frame: Bytes<'a>,
+    /// The log's words.
+    pub log: Words<'a>,
+    /// The cursor's numbers.
+    pub place: Place,
+}
+
+impl<'a> Standing<'a> {
+    /// A frame, a log and a place.
+    pub fn new(
+        frame: impl Into<Bytes<'a>>,
+        log: impl Into<Words<'a>>,
+        place: Place,
+    ) -> Standing<'a> {
+        let (frame, log) = (frame.into(), log.into());
+        Standing { frame, log, place }
+    }
+
+    /// The same, lent.
+    pub fn lent(&self) -> Standing<'_> {
+        Standing::new(&*self.frame, &*self.log, self.place)
+    }
+
+    /// The same with the cursor elsewhere.
+    pub fn at(mut self, place: Place) -> Self {
+        self.place = place;
+        self
+    }
+}
 
 /// A call, with what it is given.
 #[derive(Clone, PartialEq, Eq)]
@@ -43,6 +93,37 @@ pub enum Call<'a> {
     Zeros {
         init: u16,
         n: usize,
+    },
+    ReadElement {
+        from: Standing<'a>,
+        ask: Ask,
+    },
+    ReadRaw {
+        frame: Bytes<'a>,
+        place: Place,
+        width: usize,
+    },
+    Span {
+        from: Standing<'a>,
+        name: u32,
+        role: Role,
+        width: usize,
+    },
+    CloseSpan {
+        from: Standing<'a>,
+        name: u32,
+        role: Role,
+        start: usize,
+    },
+    CheckTiling {
+        log: Words<'a>,
+        count: usize,
+        total: usize,
+    },
+    ElementAt {
+        log: Words<'a>,
+        count: usize,
+        k: usize,
     },
 }
 
@@ -91,6 +172,53 @@ impl<'a> Call<'a> {
         Call::Zeros { init, n }
     }
 
+    /// A read that is logged.
+    pub fn read_element(from: Standing<'a>, ask: Ask) -> Self {
+        Call::ReadElement { from, ask }
+    }
+
+    /// A read that is not logged.
+    pub fn read_raw(frame: impl Into<Bytes<'a>>, place: Place, width: usize) -> Self {
+        let frame = frame.into();
+        Call::ReadRaw {
+            frame,
+            place,
+            width,
+        }
+    }
+
+    /// A span of bits.
+    pub fn span(from: Standing<'a>, (name, role): (u32, Role), width: usize) -> Self {
+        Call::Span {
+            from,
+            name,
+            role,
+            width,
+        }
+    }
+
+    /// A span up to the cursor.
+    pub fn close_span(from: Standing<'a>, (name, role): (u32, Role), start: usize) -> Self {
+        Call::CloseSpan {
+            from,
+            name,
+            role,
+            start,
+        }
+    }
+
+    /// A check of what is logged.
+    pub fn check_tiling(log: impl Into<Words<'a>>, count: usize, total: usize) -> Self {
+        let log = log.into();
+        Call::CheckTiling { log, count, total }
+    }
+
+    /// A look at an element.
+    pub fn element_at(log: impl Into<Words<'a>>, count: usize, k: usize) -> Self {
+        let log = log.into();
+        Call::ElementAt { log, count, k }
+    }
+
     /// The function's place among [`NAMES`].
     pub fn function(&self) -> usize {
         match self {
@@ -100,6 +228,30 @@ impl<'a> Call<'a> {
             Call::RangeZero { .. } => 3,
             Call::Crc16 { .. } => 4,
             Call::Zeros { .. } => 5,
+            Call::ReadElement { .. } => 6,
+            Call::ReadRaw { .. } => 7,
+            Call::Span { .. } => 8,
+            Call::CloseSpan { .. } => 9,
+            Call::CheckTiling { .. } => 10,
+            Call::ElementAt { .. } => 11,
+        }
+    }
+
+    /// The cursor's numbers before the call, where it has a cursor.
+    pub fn place(&self) -> Option<Place> {
+        match self {
+            Call::ReadRaw { place, .. } => Some(*place),
+            _ => self.standing().map(|from| from.place),
+        }
+    }
+
+    /// What the call may log from, where it may log.
+    pub fn standing(&self) -> Option<&Standing<'a>> {
+        match self {
+            Call::ReadElement { from, .. }
+            | Call::Span { from, .. }
+            | Call::CloseSpan { from, .. } => Some(from),
+            _ => None,
         }
     }
 }
@@ -120,8 +272,57 @@ impl fmt::Display for Call<'_> {
             Call::RangeZero { x, a, n } => write!(f, " {} {a} {n}", hex(x)),
             Call::Crc16 { init, bytes } => write!(f, " {init} {}", hex(bytes)),
             Call::Zeros { init, n } => write!(f, " {init} {n}"),
+            _ => self.fmt_syntax(f),
         }
     }
+}
+
+impl Call<'_> {
+    /// What a call of syntax is given.
+    fn fmt_syntax(&self, f: &mut fmt::Formatter<'_>) -> fmt::Result {
+        if let Some(from) = self.standing() {
+            write!(f, " {from}")?;
+        }
+        match self {
+            Call::ReadElement { ask, .. } => {
+                let (name, role, index) = (ask.name, ask.role.word(), word16(ask.index));
+                write!(f, " {name} {role} {index} {}", ask.width)
+            }
+            Call::ReadRaw {
+                frame,
+                place,
+                width,
+            } => write!(f, " {} {} {} {width}", hex(frame), place.pos, place.limit),
+            Call::Span {
+                name, role, width, ..
+            } => write!(f, " {name} {} {width}", role.word()),
+            Call::CloseSpan {
+                name, role, start, ..
+            } => write!(f, " {name} {} {start}", role.word()),
+            Call::CheckTiling { log, count, total } => {
+                write!(f, " {} {count} {total}", words_hex(log))
+            }
+            Call::ElementAt { log, count, k } => write!(f, " {} {count} {k}", words_hex(log)),
+            _ => Ok(()),
+        }
+    }
+}
+
+/// The frame, the log, and the cursor's position, limit, block and count.
+impl fmt::Display for Standing<'_> {
+    fn fmt(&self, f: &mut fmt::Formatter<'_>) -> fmt::Result {
+        let (frame, log) = (hex(&self.frame), words_hex(&self.log));
+        let Place {
+            pos, limit, count, ..
+        } = self.place;
+        let block = word16(self.place.block);
+        write!(f, "{frame} {log} {pos} {limit} {block} {count}")
+    }
+}
+
+/// A block or an index as it is written down: two's complement in 16 bits.
+pub fn word16(number: impl Into<i16>) -> u16 {
+    number.into() as u16
 }
 
 /// Two lower-case digits a byte, or `-` for no byte.
@@ -130,4 +331,10 @@ pub fn hex(bytes: &[u8]) -> String {
         return "-".to_string();
     }
     bytes.iter().map(|byte| format!("{byte:02x}")).collect()
+}
+
+/// A log's words: four bytes each, high byte first.
+pub fn words_hex(words: &[u32]) -> String {
+    let bytes: Vec<u8> = words.iter().flat_map(|word| word.to_be_bytes()).collect();
+    hex(&bytes)
 }

@@ -3,18 +3,19 @@
 
 use crate::call::Call;
 use crate::random::Random;
+use crate::scripts;
 
 /// Bytes that show a bit taken from the wrong place.
 const PATTERNS: [u8; 7] = [0x00, 0xFF, 0x80, 0x01, 0xA5, 0x5A, 0x7F];
 /// Widths at which something changes: a byte's, a word's, and one past the widest.
-const WIDTHS: [usize; 12] = [0, 1, 7, 8, 9, 15, 16, 17, 25, 31, 32, 33];
+pub const WIDTHS: [usize; 12] = [0, 1, 7, 8, 9, 15, 16, 17, 25, 31, 32, 33];
 /// A value whose bits show where each went.
 const VALUE: u32 = 0xA5C3_1E78;
 /// How many random cases each function gets.
 const RANDOM: usize = 120_000;
 
 /// Positions and widths that overflow or truncate a sum, a product by 8, or a cast to 32 bits.
-const HUGE: [usize; 20] = [
+pub const HUGE: [usize; 20] = [
     usize::MAX,
     usize::MAX - 1,
     usize::MAX - 6,
@@ -49,6 +50,7 @@ pub fn all(visit: &mut impl FnMut(&Call)) {
     short_crcs(visit);
     random_crcs(visit);
     zero_runs(visit);
+    scripts::all(visit);
 }
 
 /// Every buffer of at most two bytes out of `patterns`.

@@ -1,54 +1,55 @@
-//! What the core answers, through the safe wrapper, on bytes with guards around them.
+//! What the core answers, through the safe wrapper, on bytes and words with guards around them.
 
 use crate::answers::Answer;
-use crate::call::Call;
+use crate::call::{Call, Standing};
 use std::hint::black_box;
+use zelamodurk::syntax::{self, Place};
 use zelamodurk::{bits, crc, Refusal};
 
-/// How many guard bytes stand before and after lent bytes.
+/// How many guards stand before and after what is lent.
 const GUARD: usize = 16;
 
-/// A copy of bytes with a guard on either side.
-struct Room {
-    all: Vec<u8>,
-    guard: u8,
+/// A copy of bytes or words with guards on either side.
+struct Room<T> {
+    all: Vec<T>,
+    guard: T,
 }
 
-impl Room {
-    fn of(bytes: &[u8]) -> Self {
+impl<T: Copy + PartialEq + From<u8>> Room<T> {
+    fn of(lent: &[T]) -> Self {
         // Another guard from case to case, so that an answer can't lean on it.
-        let guard = 0xA5 ^ (bytes.len() as u8).wrapping_mul(0x3B);
+        let guard = T::from(0xA5 ^ (lent.len() as u8).wrapping_mul(0x3B));
         let mut all = vec![guard; GUARD];
-        all.extend_from_slice(bytes);
-        all.resize(bytes.len() + 2 * GUARD, guard);
+        all.extend_from_slice(lent);
+        all.resize(lent.len() + 2 * GUARD, guard);
         Room { all, guard }
     }
 
-    fn lent(&self) -> &[u8] {
+    fn lent(&self) -> &[T] {
         &self.all[GUARD..self.all.len() - GUARD]
     }
 
-    fn lent_mut(&mut self) -> &mut [u8] {
+    fn lent_mut(&mut self) -> &mut [T] {
         let end = self.all.len() - GUARD;
         &mut self.all[GUARD..end]
     }
 
-    /// The lent bytes as they are now, if no guard was touched.
-    fn now(&self) -> Result<&[u8], String> {
+    /// What was lent as it is now, if no guard was touched.
+    fn now(&self) -> Result<&[T], String> {
         let all = black_box(&self.all);
-        let kept = |part: &[u8]| part.iter().all(|&byte| byte == self.guard);
+        let kept = |part: &[T]| part.iter().all(|guard| *guard == self.guard);
         if kept(&all[..GUARD]) && kept(&all[all.len() - GUARD..]) {
             return Ok(&all[GUARD..all.len() - GUARD]);
         }
-        Err("a byte outside the lent bytes was written".to_string())
+        Err("something outside what was lent was written".to_string())
     }
 
     /// Nothing was written at all.
-    fn untouched(&self, bytes: &[u8]) -> Result<(), String> {
-        if self.now()? == bytes {
+    fn untouched(&self, lent: &[T]) -> Result<(), String> {
+        if self.now()? == lent {
             return Ok(());
         }
-        Err("bytes that were lent for reading were written".to_string())
+        Err("what was lent for reading was written".to_string())
     }
 }
 
@@ -86,6 +87,13 @@ pub fn answer(call: &Call) -> Result<Answer, String> {
             room.untouched(x)?;
             Ok(told(is.map(u32::from)))
         }
+        _ => crc_answer(call),
+    }
+}
+
+/// What the functions of crc answer, and those of syntax.
+fn crc_answer(call: &Call) -> Result<Answer, String> {
+    match call {
         Call::Crc16 { init, bytes } => {
             let room = Room::of(bytes);
             let value = crc::crc16(*init, room.lent());
@@ -93,7 +101,80 @@ pub fn answer(call: &Call) -> Result<Answer, String> {
             Ok(told(Ok(value.into())))
         }
         Call::Zeros { init, n } => Ok(told(Ok(crc::zeros(*init, *n).into()))),
+        _ => syntax_answer(call),
     }
+}
+
+/// What the functions of syntax answer.
+fn syntax_answer(call: &Call) -> Result<Answer, String> {
+    match call {
+        Call::ReadRaw {
+            frame,
+            place,
+            width,
+        } => {
+            let (room, mut place) = (Room::of(frame), *place);
+            let mut answer = told(syntax::read_raw(room.lent(), &mut place, *width));
+            room.untouched(frame)?;
+            answer.place = Some(place);
+            Ok(answer)
+        }
+        Call::CheckTiling { log, count, total } => {
+            let room = Room::of(log);
+            let tiled = syntax::check_tiling(room.lent(), *count, *total);
+            room.untouched(log)?;
+            Ok(told(tiled.map(|()| 0)))
+        }
+        Call::ElementAt { log, count, k } => {
+            let room = Room::of(log);
+            let found = syntax::element_at(room.lent(), *count, *k);
+            room.untouched(log)?;
+            let mut answer = told(found.map(|_| 0));
+            answer.element = found.ok();
+            Ok(answer)
+        }
+        _ => logging_answer(call),
+    }
+}
+
+/// What those of them that may log answer.
+fn logging_answer(call: &Call) -> Result<Answer, String> {
+    match call {
+        Call::ReadElement { from, ask } => logged(from, |frame, log, place| {
+            syntax::read_element(frame, log, place, ask)
+        }),
+        Call::Span {
+            from,
+            name,
+            role,
+            width,
+        } => logged(from, |frame, log, place| {
+            syntax::span(frame, log, place, *name, *role, *width).map(|()| 0)
+        }),
+        Call::CloseSpan {
+            from,
+            name,
+            role,
+            start,
+        } => logged(from, |frame, log, place| {
+            syntax::close_span(frame, log, place, *name, *role, *start).map(|()| 0)
+        }),
+        _ => Err("nobody answers this call".to_string()),
+    }
+}
+
+/// A call that may log, from where the cursor stands.
+fn logged(
+    from: &Standing,
+    call: impl FnOnce(&[u8], &mut [u32], &mut Place) -> Result<u32, Refusal>,
+) -> Result<Answer, String> {
+    let (frame, mut log) = (Room::of(&from.frame), Room::of(&from.log));
+    let mut place = from.place;
+    let mut answer = told(call(frame.lent(), log.lent_mut(), &mut place));
+    frame.untouched(&from.frame)?;
+    answer.place = Some(place);
+    answer.log = log.now()?.to_vec();
+    Ok(answer)
 }
 
 fn told(outcome: Result<u32, Refusal>) -> Answer {

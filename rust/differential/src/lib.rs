@@ -1,7 +1,8 @@
 //! Holds the core's answers to those of the Rust that it was ported from, and records them.
 //!
-//! Where document 01 refuses a call, the answer is document 01's ([`rule`]), since the Rust would
-//! panic or answer something else there. Everywhere else it is the Rust's ([`rust`]).
+//! Where document 01 refuses a call for a reason that the Rust does not have, the answer is document
+//! 01's ([`rule`]), since the Rust would panic or answer something else there. Everywhere else it is
+//! the Rust's ([`rust`]).
 #![forbid(unsafe_code)]
 
 pub mod answers;
@@ -12,5 +13,6 @@ pub mod random;
 pub mod record;
 pub mod rule;
 pub mod rust;
+pub mod scripts;
 pub mod tally;
 pub mod vectors;

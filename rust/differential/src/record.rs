@@ -7,11 +7,14 @@ use crate::random::Random;
 use crate::vectors;
 use std::collections::HashSet;
 
+mod syntax;
+
 /// The files' texts, in the order of [`vectors::FILES`].
-pub fn texts() -> Result<[String; 2], String> {
+pub fn texts() -> Result<[String; 3], String> {
     Ok([
         text(BITS_HEAD, &bits_calls())?,
         text(CRC_HEAD, &crc_calls())?,
+        text(syntax::HEAD, &syntax::calls())?,
     ])
 }
 

@@ -1,12 +1,27 @@
-//! Document 01's rule for bits, written apart from the core: "The bits layer tests 6, then 1 for
-//! any range (position plus width) past either buffer."
+//! Document 01's rules, written apart from the core.
+//!
+//! Bits: "The bits layer tests 6, then 1 for any range (position plus width) past either buffer."
+//! Syntax: "Reading one element tests 6, then 1, then 19."
 
-use crate::call::Call;
+use crate::call::{Call, Standing};
+use zelamodurk::syntax::Place;
 
-/// A width above 32, where a width is what is asked for. Ranges compared may be wider.
+/// A width above 32, where a width is what is asked for; ranges compared and spans may be wider. A
+/// limit, a count, a span's start or an element's place that is unfit.
 const BAD_ARGUMENT: u8 = 6;
-/// A range past the end of its buffer.
+/// A range past the end of its buffer, or an element past the limit.
 const PAST_LIMIT: u8 = 1;
+/// Elements that don't tile.
+const NOT_TILED: u8 = 18;
+/// A log with no room for one more.
+const LOG_FULL: u8 = 19;
+
+/// The words of an element in the log, and where its position and width stand among them.
+pub const WORDS: usize = 8;
+/// See [`WORDS`].
+pub const POS: usize = 4;
+/// See [`WORDS`].
+pub const WIDTH: usize = 5;
 
 /// 0 for a call that document 01 takes, or the number that it refuses it with.
 pub fn number(call: &Call) -> u8 {
@@ -16,17 +31,108 @@ pub fn number(call: &Call) -> u8 {
         Call::RangeEq { x, a, y, b, n } => past(&[(x, *a), (y, *b)], *n),
         Call::RangeZero { x, a, n } => past(&[(x, *a)], *n),
         Call::Crc16 { .. } | Call::Zeros { .. } => 0,
+        Call::ReadElement { ask, .. } if ask.width > 32 => BAD_ARGUMENT,
+        Call::ReadElement { from, ask } => element(from, ask.width),
+        Call::ReadRaw { width, .. } if *width > 32 => BAD_ARGUMENT,
+        Call::ReadRaw {
+            frame,
+            place,
+            width,
+        } => first(&[
+            (BAD_ARGUMENT, !is_sound(frame, place)),
+            (PAST_LIMIT, passes_limit(place, *width)),
+        ]),
+        Call::Span { from, width, .. } => element(from, *width),
+        Call::CloseSpan { from, start, .. } => closing(from, *start),
+        Call::CheckTiling { log, count, total } => first(&[
+            (BAD_ARGUMENT, *count > room(log)),
+            (NOT_TILED, !tile(log, *count, *total)),
+        ]),
+        Call::ElementAt { log, count, k } => {
+            first(&[(BAD_ARGUMENT, *count > room(log) || k >= count)])
+        }
     }
+}
+
+/// Whether a refusal is "the port's own": 6, 19, and 1 in bits. So is 1 where position plus width
+/// passes the largest number, since the Rust panics or wraps there.
+pub fn is_ports_own(call: &Call, number: u8) -> bool {
+    match (number, call) {
+        (BAD_ARGUMENT | LOG_FULL, _) => true,
+        (PAST_LIMIT, Call::ReadElement { from, ask }) => wraps(&from.place, ask.width),
+        (PAST_LIMIT, Call::ReadRaw { place, width, .. }) => wraps(place, *width),
+        (PAST_LIMIT, Call::Span { from, width, .. }) => wraps(&from.place, *width),
+        (PAST_LIMIT, _) => true,
+        _ => false,
+    }
+}
+
+/// The number of the first test that holds, or 0.
+fn first(tests: &[(u8, bool)]) -> u8 {
+    let refused = tests.iter().find(|(_, holds)| *holds);
+    refused.map_or(0, |(number, _)| *number)
 }
 
 /// 1 where the n bits from one of the positions on pass their buffer. Sums of two `usize` fit a `u128`.
 fn past(ranges: &[(&[u8], usize)], n: usize) -> u8 {
     let passes = |&(bytes, pos): &(&[u8], usize)| pos as u128 + n as u128 > 8 * bytes.len() as u128;
-    if ranges.iter().any(passes) {
-        PAST_LIMIT
-    } else {
-        0
+    first(&[(PAST_LIMIT, ranges.iter().any(passes))])
+}
+
+/// "A cursor's limit is at most 32,768 bits and never past its data."
+fn is_sound(frame: &[u8], place: &Place) -> bool {
+    place.limit <= 32_768 && place.limit <= 8 * frame.len()
+}
+
+/// "At most 4,096 elements of its room are used."
+fn room(log: &[u32]) -> usize {
+    (log.len() / WORDS).min(4096)
+}
+
+fn passes_limit(place: &Place, width: usize) -> bool {
+    place.pos as u128 + width as u128 > place.limit as u128
+}
+
+fn wraps(place: &Place, width: usize) -> bool {
+    place.pos.checked_add(width).is_none()
+}
+
+/// An element of any width at the cursor: 6, 1, 19.
+fn element(from: &Standing, width: usize) -> u8 {
+    let (place, room) = (&from.place, room(&from.log));
+    first(&[
+        (
+            BAD_ARGUMENT,
+            !is_sound(&from.frame, place) || place.count > room,
+        ),
+        (PAST_LIMIT, passes_limit(place, width)),
+        (LOG_FULL, place.count == room),
+    ])
+}
+
+/// "Start past the cursor, or cursor past its limit: 6, then 19."
+fn closing(from: &Standing, start: usize) -> u8 {
+    let (place, room) = (&from.place, room(&from.log));
+    first(&[
+        (
+            BAD_ARGUMENT,
+            !is_sound(&from.frame, place) || place.count > room,
+        ),
+        (BAD_ARGUMENT, start > place.pos || place.pos > place.limit),
+        (LOG_FULL, place.count == room),
+    ])
+}
+
+/// Whether each of the elements begins where those before it end together, and all end at the total.
+fn tile(log: &[u32], count: usize, total: usize) -> bool {
+    let mut sum: u128 = 0;
+    for element in log.chunks_exact(WORDS).take(count) {
+        if u128::from(element[POS]) != sum {
+            return false;
+        }
+        sum += u128::from(element[WIDTH]);
     }
+    sum == total as u128
 }
 
 /// A run of zero bytes that fits a buffer and leaves the register as n of them do. The polynomial is

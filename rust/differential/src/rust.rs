@@ -1,61 +1,114 @@
 //! What the Rust does with a call. The one module that needs it.
 
-use crate::call::Call;
+use crate::answers::Answer;
 
 /// Whether the Rust was there when this was built.
 pub const PRESENT: bool = cfg!(oracle);
 
+/// Names' numbers, each with the text that stands for it in the Rust.
+pub const NAMES: [(u32, &str); 9] = [
+    (0, "the smallest number"),
+    (1, "exps absolute"),
+    (32, "auxbits"),
+    (34, "auxdatae"),
+    (37, "crc2"),
+    (255, "the core's last number"),
+    (256, "a caller's first number"),
+    (0x8000_0000, "the top bit"),
+    (u32::MAX, "the largest number"),
+];
+
 /// What the Rust does with a call.
 #[derive(Clone, Debug, PartialEq, Eq)]
 pub struct Asked {
-    /// It panics; `value` says nothing then.
+    /// It panics; the answer's number, bit and value say nothing then.
     pub panicked: bool,
-    /// The value, with 1 for true.
-    pub value: u32,
-    /// The bytes after a set, also after one that panicked; empty for the other functions.
-    pub after: Vec<u8>,
-}
-
-/// What the Rust does with a call, or none where it is not there.
-#[cfg(not(oracle))]
-pub fn ask(_: &Call) -> Option<Asked> {
-    None
-}
-
-/// What the Rust does with a call, or none where it is not there.
-#[cfg(oracle)]
-pub fn ask(call: &Call) -> Option<Asked> {
-    let mut after = match call {
-        Call::Set { bytes, .. } => bytes.to_vec(),
-        _ => Vec::new(),
-    };
-    let value = quiet::caught(|| answer(call, &mut after));
-    Some(Asked {
-        panicked: value.is_none(),
-        value: value.unwrap_or(0),
-        after,
-    })
+    /// What it answers and leaves, in the core's terms. It leaves something also where it panics.
+    pub answer: Answer,
+    /// The position and width of its last field, which may be too large for the words of a log.
+    pub last: Option<(usize, usize)>,
 }
 
 #[cfg(oracle)]
-use crate::rule;
+mod cursor;
 
 #[cfg(oracle)]
-fn answer(call: &Call, after: &mut [u8]) -> u32 {
+mod there {
+    use super::{cursor, quiet, Asked};
+    use crate::answers::Answer;
+    use crate::call::Call;
+    use crate::rule;
     use oracle::{bits, crc};
-    match call {
-        Call::Get { bytes, pos, n } => bits::get(bytes, *pos, *n),
-        Call::Set { pos, n, value, .. } => {
-            bits::set(after, *pos, *n, *value);
-            0
+
+    /// What the Rust does with a call, or none where it is not there.
+    pub fn ask(call: &Call) -> Option<Asked> {
+        if let Some(asked) = cursor::ask(call) {
+            return Some(asked);
         }
-        Call::RangeEq { x, a, y, b, n } => u32::from(bits::range_eq(x, *a, y, *b, *n)),
-        Call::RangeZero { x, a, n } => u32::from(bits::range_zero(x, *a, *n)),
-        Call::Crc16 { init, bytes } => u32::from(crc::crc16(*init, bytes)),
-        // The Rust has no run of zeros without a buffer: it hands a buffer of zeros over.
-        Call::Zeros { init, n } => u32::from(crc::crc16(*init, &vec![0; rule::run(*n)])),
+        let mut after = match call {
+            Call::Set { bytes, .. } => bytes.to_vec(),
+            _ => Vec::new(),
+        };
+        let value = quiet::caught(|| value(call, &mut after));
+        Some(Asked {
+            panicked: value.is_none(),
+            answer: Answer::taken(value.unwrap_or(0), after),
+            last: None,
+        })
+    }
+
+    /// The value of a function of bits or crc.
+    fn value(call: &Call, after: &mut [u8]) -> u32 {
+        match call {
+            Call::Get { bytes, pos, n } => bits::get(bytes, *pos, *n),
+            Call::Set { pos, n, value, .. } => {
+                bits::set(after, *pos, *n, *value);
+                0
+            }
+            Call::RangeEq { x, a, y, b, n } => u32::from(bits::range_eq(x, *a, y, *b, *n)),
+            Call::RangeZero { x, a, n } => u32::from(bits::range_zero(x, *a, *n)),
+            Call::Crc16 { init, bytes } => u32::from(crc::crc16(*init, bytes)),
+            // The Rust has no run of zeros without a buffer: it hands a buffer of zeros over.
+            Call::Zeros { init, n } => u32::from(crc::crc16(*init, &vec![0; rule::run(*n)])),
+            _ => 0,
+        }
     }
 }
+
+#[cfg(oracle)]
+pub use cursor::{index, kinds, tiles};
+#[cfg(oracle)]
+pub use there::ask;
+
+#[cfg(not(oracle))]
+mod absent {
+    use super::Asked;
+    use crate::call::Call;
+    use zelamodurk::syntax::Role;
+
+    /// What the Rust does with a call, or none where it is not there.
+    pub fn ask(_: &Call) -> Option<Asked> {
+        None
+    }
+
+    /// What the Rust says of elements with these positions and widths, or none where it is not there.
+    pub fn tiles(_: &[(usize, usize)], _: usize) -> Option<Asked> {
+        None
+    }
+
+    /// The index that the Rust logs for one that is handed in, or none where it is not there.
+    pub fn index(_: usize) -> Option<i16> {
+        None
+    }
+
+    /// Whether a role is of dynamic range control, a checksum, a span; none where the Rust is not there.
+    pub fn kinds(_: Role) -> Option<[bool; 3]> {
+        None
+    }
+}
+
+#[cfg(not(oracle))]
+pub use absent::{ask, index, kinds, tiles};
 
 /// Panics caught, and not printed: the Rust's are what is looked for.
 #[cfg(oracle)]

@@ -1,8 +1,10 @@
-//! The places of docs/DIFFERENCES.md about bits and crc: what the Rust does, and what the core does.
+//! The places of docs/DIFFERENCES.md: what the Rust does, and what the core does.
 //! The Rust's half holds in the profile that this is built in; `./test` builds for release.
 #![forbid(unsafe_code)]
 
-use differential::{call::Call, core, rust};
+use differential::call::{Call, Standing};
+use differential::{core, rust};
+use zelamodurk::syntax::{Ask, Place, Role};
 
 const MAX: usize = usize::MAX;
 
@@ -13,6 +15,10 @@ enum Rust {
     Answers(u32),
     Leaves(Vec<u8>),
     PanicsHavingWritten(Vec<u8>),
+    /// The value, and where the cursor stands then.
+    Reads(u32, usize),
+    /// The value, the position and width of the element, and where the cursor stands then.
+    Logs(u32, (usize, usize), usize),
 }
 
 /// Holds the Rust to what is said of it; nothing is asked where it is not there.
@@ -21,12 +27,17 @@ fn rust_does(call: &Call, does: &Rust) {
     let Some(asked) = rust::ask(call) else {
         return;
     };
+    let answer = asked.answer;
+    let pos = answer.place.map_or(0, |place| place.pos);
     let seen = match (does, asked.panicked) {
-        (Rust::PanicsHavingWritten(_), true) => Rust::PanicsHavingWritten(asked.after),
+        (Rust::PanicsHavingWritten(_), true) => Rust::PanicsHavingWritten(answer.after),
         (_, true) => Rust::Panics,
-        (Rust::Leaves(_), false) => Rust::Leaves(asked.after),
-        (_, false) => Rust::Answers(asked.value),
+        (Rust::Leaves(_), false) => Rust::Leaves(answer.after),
+        (Rust::Reads(..), false) => Rust::Reads(answer.value, pos),
+        (Rust::Logs(..), false) => Rust::Logs(answer.value, asked.last.unwrap_or_default(), pos),
+        (_, false) => Rust::Answers(answer.value),
     };
+    assert_eq!(answer.number, 0, "the Rust: {call}");
     assert_eq!(seen, *does, "the Rust: {call}");
 }
 
@@ -43,9 +54,14 @@ fn only_debug_panics(answers: Rust) -> Rust {
 #[track_caller]
 fn core_refuses(call: &Call, number: u8) {
     let answer = core::answer(call).unwrap();
-    assert_eq!((answer.number, answer.bit, answer.value), (number, 0, 0));
+    let bit = call.place().map_or(0, |place| place.pos);
+    assert_eq!((answer.number, answer.bit, answer.value), (number, bit, 0));
+    assert_eq!(answer.place, call.place(), "a refused call moved");
     if let Call::Set { bytes, .. } = call {
         assert_eq!(answer.after, **bytes, "a refused set changed a byte");
+    }
+    if let Some(from) = call.standing() {
+        assert_eq!(answer.log, *from.log, "a refused call wrote to the log");
     }
 }
 
@@ -199,4 +215,195 @@ fn crc_of_any_bytes_is_the_rusts() {
         core::answer(&Call::crc16(0, &[0x01][..])).unwrap().value,
         0x8005
     );
+}
+
+/// Room for one element, and a cursor that has logged nothing.
+fn cursor(frame: &[u8], pos: usize, limit: usize) -> Standing<'_> {
+    let place = Place {
+        pos,
+        ..Place::new(limit)
+    };
+    Standing::new(frame, vec![0; 8], place)
+}
+
+/// A plain element without an index.
+fn read(from: Standing, width: usize) -> Call {
+    let ask = Ask {
+        name: 0,
+        role: Role::Plain,
+        index: -1,
+        width,
+    };
+    Call::read_element(from, ask)
+}
+
+fn raw(from: Standing, width: usize) -> Call {
+    Call::read_raw(from.frame, from.place, width)
+}
+
+fn span(from: Standing, width: usize) -> Call {
+    Call::span(from, (0, Role::AuxBits), width)
+}
+
+fn close(from: Standing, start: usize) -> Call {
+    Call::close_span(from, (0, Role::Mantissas), start)
+}
+
+#[test]
+fn reads_wider_than_32() {
+    let frame = [0x12, 0x34, 0x56, 0x78, 0x9A];
+    let from = || cursor(&frame, 0, 40);
+    // The Rust keeps the low 32 bits of what it read.
+    let logs = Rust::Logs(0x2468_ACF1, (0, 33), 33);
+    differ(&read(from(), 33), only_debug_panics(logs), 6);
+    let reads = Rust::Reads(0x2468_ACF1, 33);
+    differ(&raw(from(), 33), only_debug_panics(reads), 6);
+}
+
+#[test]
+fn reads_with_the_limit_past_the_data() {
+    differ(&read(cursor(&[], 0, 1), 1), Rust::Panics, 6);
+    differ(&raw(cursor(&[], 0, 1), 1), Rust::Panics, 6);
+    // Bits that are there are read.
+    let from = || cursor(&[0xFF], 0, 9);
+    differ(&read(from(), 1), Rust::Logs(1, (0, 1), 1), 6);
+    differ(&raw(from(), 1), Rust::Reads(1, 1), 6);
+}
+
+#[test]
+fn spans_with_the_limit_past_the_data() {
+    differ(&span(cursor(&[], 0, 1), 1), Rust::Logs(0, (0, 1), 1), 6);
+    differ(&close(cursor(&[], 1, 1), 0), Rust::Logs(0, (0, 1), 1), 6);
+}
+
+#[test]
+fn limits_above_32768() {
+    let frame = [0xFF; 4097];
+    let from = || cursor(&frame, 1, 32_769);
+    differ(&read(from(), 1), Rust::Logs(1, (1, 1), 2), 6);
+    differ(&raw(from(), 1), Rust::Reads(1, 2), 6);
+    differ(&span(from(), 1), Rust::Logs(0, (1, 1), 2), 6);
+    differ(&close(from(), 0), Rust::Logs(0, (0, 1), 1), 6);
+}
+
+#[test]
+fn elements_whose_end_overflows() {
+    let frame = [0xFF];
+    for (pos, width) in [(MAX, 1), (MAX, 2), (MAX - 31, 32)] {
+        differ(&read(cursor(&frame, pos, 8), width), Rust::Panics, 1);
+        differ(&raw(cursor(&frame, pos, 8), width), Rust::Panics, 1);
+    }
+    // Position and width come round to a bit before the limit, where the cursor then stands.
+    for (pos, width) in [(MAX, 1), (1, MAX)] {
+        let logs = Rust::Logs(0, (pos, width), 0);
+        let call = span(cursor(&frame, pos, 8), width);
+        differ(&call, only_debug_panics(logs), 1);
+    }
+}
+
+#[test]
+fn an_index_above_32767() {
+    // The Rust takes any index and logs its low 16 bits; the core is handed an i16.
+    if let Some(index) = rust::index(40_000) {
+        assert_eq!(index, -25_536);
+    }
+    let mut log = [0; 8];
+    let ask = Ask {
+        name: 0,
+        role: Role::Plain,
+        index: -25_536,
+        width: 1,
+    };
+    let mut place = Place::new(8);
+    assert_eq!(
+        zelamodurk::syntax::read_element(&[0xFF], &mut log, &mut place, &ask),
+        Ok(1)
+    );
+    assert_eq!(log[3], 40_000);
+    let element = zelamodurk::syntax::element_at(&log, 1, 0).unwrap();
+    assert_eq!(element.index, -25_536);
+}
+
+#[test]
+fn a_span_that_starts_past_the_cursor() {
+    // The difference comes round.
+    let logs = Rust::Logs(0, (1, MAX), 0);
+    let call = close(cursor(&[0xFF], 0, 8), 1);
+    differ(&call, only_debug_panics(logs), 6);
+}
+
+#[test]
+fn a_span_closed_past_the_limit() {
+    let call = close(cursor(&[0xFF], 1, 0), 0);
+    differ(&call, Rust::Logs(0, (0, 1), 1), 6);
+}
+
+#[test]
+fn a_full_log() {
+    // The Rust's log grows.
+    let none = Place::new(8);
+    let from = || Standing::new(&[0xFF][..], &[][..], none);
+    differ(&read(from(), 1), Rust::Logs(1, (0, 1), 1), 19);
+    differ(&span(from(), 1), Rust::Logs(0, (0, 1), 1), 19);
+    differ(&close(from(), 0), Rust::Logs(0, (0, 0), 0), 19);
+}
+
+#[test]
+fn a_log_of_more_than_4096_elements() {
+    let full = Place {
+        count: 4096,
+        ..Place::new(8)
+    };
+    let from = || Standing::new(&[0xFF][..], vec![0; 8 * 4097], full);
+    differ(&read(from(), 1), Rust::Logs(1, (0, 1), 1), 19);
+    differ(&span(from(), 1), Rust::Logs(0, (0, 1), 1), 19);
+    differ(&close(from(), 0), Rust::Logs(0, (0, 0), 0), 19);
+}
+
+#[test]
+fn a_count_past_the_room() {
+    // The Rust counts for itself.
+    let past = Place {
+        count: 2,
+        ..Place::new(8)
+    };
+    let from = || cursor(&[0xFF], 0, 8).at(past);
+    differ(&read(from(), 1), Rust::Logs(1, (0, 1), 1), 6);
+    differ(&span(from(), 1), Rust::Logs(0, (0, 1), 1), 6);
+    differ(&close(from(), 0), Rust::Logs(0, (0, 0), 0), 6);
+    differ(&Call::check_tiling(&[][..], 1, 0), Rust::Answers(0), 6);
+    // A raw read looks at no count in either.
+    let call = raw(from(), 1);
+    assert_eq!(core::answer(&call).unwrap().value, 1);
+    rust_does(&call, &Rust::Reads(1, 1));
+}
+
+#[test]
+fn no_bits_at_the_limit_are_taken_by_both() {
+    let from = |pos| cursor(&[0xFF], pos, 8);
+    let call = read(from(8), 0);
+    assert_eq!(core::answer(&call).unwrap().number, 0);
+    rust_does(&call, &Rust::Logs(0, (8, 0), 8));
+    // A bit further both refuse them.
+    for call in [read(from(9), 0), raw(from(9), 0), span(from(9), 0)] {
+        core_refuses(&call, 1);
+        if let Some(asked) = rust::ask(&call) {
+            assert_eq!((asked.panicked, asked.answer.number), (false, 1));
+        }
+    }
+}
+
+#[test]
+fn tiling_whose_end_overflows() {
+    // The Rust's fields hold any number; here the last end comes round to the total.
+    if let Some(asked) = rust::tiles(&[(0, 5), (5, MAX)], 4) {
+        assert_eq!(asked.panicked, cfg!(debug_assertions));
+        assert_eq!(asked.answer.number, 0);
+    }
+    // The core's log holds words of 32 bits, whose sums fit a usize.
+    let log = [0, 0, 0, 0, 0, 5, 0, 0, 0, 0, 0, 0, 5, u32::MAX, 0, 0];
+    core_refuses(&Call::check_tiling(&log[..], 2, 4), 18);
+    let end = 5 + u32::MAX as usize;
+    let call = Call::check_tiling(&log[..], 2, end);
+    assert_eq!(core::answer(&call).unwrap().number, 0);
 }

@@ -21,7 +21,7 @@ fn every_kind_of_answer_is_recorded() {
     for (by, word) in By::WORDS {
         assert!(entries.iter().any(|entry| entry.by == by), "none by {word}");
     }
-    for number in [0, 1, 6] {
+    for number in [0, 1, 6, 18, 19] {
         assert!(entries.iter().any(|entry| entry.answer.number == number));
     }
 }

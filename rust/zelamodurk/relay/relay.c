@@ -4,8 +4,8 @@
  *
  * A call is the function's place in the table below and how many arguments follow, a byte each, and
  * then the arguments in the header's order: a kind (1 byte) and a number (8 bytes, low byte first),
- * which for lent bytes is how many there are, followed by themselves. An answer is the function's own
- * (1 byte), and then all lent bytes as they are after the call, in order.
+ * which for lent bytes is how many there are, followed by themselves; a word of a log is four bytes. An
+ * answer is the function's own (1 byte), and then all lent bytes as they are after the call, in order.
  */
 #include "zelamodurk.h"
 
@@ -17,9 +17,9 @@ extern void *memcpy(void *to, const void *from, size_t n);
 extern void _exit(int status) __attribute__((noreturn));
 
 /* What an argument is: a number; lent bytes that pass as a pointer and their number; lent room that
- * passes as a pointer alone. */
-enum kind { NUMBER, BYTES, ROOM };
-enum { WORDS = 16, LENT = 8, GUARD = 16, MARK = 0xA5 };
+ * passes as a pointer alone; a lent log that passes as a pointer and the number of its words. */
+enum kind { NUMBER, BYTES, ROOM, LOG };
+enum { WORDS = 16, LENT = 9, GUARD = 16, MARK = 0xA5 };
 
 /* On x86-64 each argument is a word of 8 bytes, in a register or on the stack, and a function reads
  * those that it has, so one type serves to call them all. */
@@ -27,8 +27,11 @@ typedef uint64_t word;
 typedef uint8_t any(word, word, word, word, word, word, word, word, word, word, word, word, word, word, word, word);
 #define FUNCTION(name) (any *)(void (*)(void))name
 static any *const functions[] = {
-    FUNCTION(zela_bits_get),  FUNCTION(zela_bits_set), FUNCTION(zela_bits_range_eq), FUNCTION(zela_bits_range_zero),
-    FUNCTION(zela_crc16),     FUNCTION(zela_crc16_zeros),
+    FUNCTION(zela_bits_get),        FUNCTION(zela_bits_set),         FUNCTION(zela_bits_range_eq),
+    FUNCTION(zela_bits_range_zero), FUNCTION(zela_crc16),            FUNCTION(zela_crc16_zeros),
+    FUNCTION(zela_role_is_drc),     FUNCTION(zela_role_is_checksum), FUNCTION(zela_role_is_span),
+    FUNCTION(zela_read_element),    FUNCTION(zela_read_raw),         FUNCTION(zela_span),
+    FUNCTION(zela_close_span),      FUNCTION(zela_check_tiling),     FUNCTION(zela_element_at),
 };
 
 static uint8_t ahead[65536];
@@ -132,10 +135,10 @@ static void relay(any *f) {
     word w[WORDS] = {0};
     size_t words = 0, lents = 0;
     for (uint8_t left = byte(WORDS); left > 0; left--) {
-        enum kind kind = byte(ROOM + 1);
+        enum kind kind = byte(LOG + 1);
         word value = number();
         if (kind != NUMBER) {
-            if (lents == LENT) {
+            if (lents == LENT || words == WORDS) {
                 _exit(1);
             }
             take_bytes(&lent[lents], value);
@@ -145,7 +148,7 @@ static void relay(any *f) {
             if (words == WORDS) {
                 _exit(1);
             }
-            w[words++] = value;
+            w[words++] = kind == LOG ? value / sizeof(uint32_t) : value;
         }
     }
     uint8_t answer = f(w[0], w[1], w[2], w[3], w[4], w[5], w[6], w[7], w[8], w[9], w[10], w[11], w[12], w[13], w[14], w[15]);

@@ -3,10 +3,12 @@
 //!
 //! Each call is safe for the same reasons. The declarations are the header's. A slice gives a pointer
 //! that is not null, also where it is empty, and its own length. Room that is lent for writing is a
-//! local or a `&mut` slice, so it overlaps nothing. The core keeps nothing between calls.
+//! local, a `&mut` slice or fields of a `&mut` struct, so it overlaps nothing. The core keeps nothing
+//! between calls.
 #![allow(unsafe_code)]
 
 use crate::refusal::{outcome, Refusal};
+use crate::syntax::{Ask, Element, Place, Role};
 
 extern "C" {
     fn zela_bits_get(
@@ -46,6 +48,83 @@ extern "C" {
     ) -> u8;
     fn zela_crc16(init: u16, bytes: *const u8, bytes_len: usize, value: *mut u16) -> u8;
     fn zela_crc16_zeros(init: u16, n: usize, value: *mut u16) -> u8;
+    fn zela_role_is_drc(role: u32, is: *mut bool) -> u8;
+    fn zela_role_is_checksum(role: u32, is: *mut bool) -> u8;
+    fn zela_role_is_span(role: u32, is: *mut bool) -> u8;
+    fn zela_read_element(
+        frame: *const u8,
+        frame_len: usize,
+        log: *mut u32,
+        log_words: usize,
+        pos: *mut usize,
+        limit: usize,
+        block: i8,
+        count: *mut usize,
+        name: u32,
+        role: u32,
+        index: i16,
+        width: usize,
+        value: *mut u32,
+        bit: *mut usize,
+    ) -> u8;
+    fn zela_read_raw(
+        frame: *const u8,
+        frame_len: usize,
+        pos: *mut usize,
+        limit: usize,
+        width: usize,
+        value: *mut u32,
+        bit: *mut usize,
+    ) -> u8;
+    fn zela_span(
+        frame: *const u8,
+        frame_len: usize,
+        log: *mut u32,
+        log_words: usize,
+        pos: *mut usize,
+        limit: usize,
+        block: i8,
+        count: *mut usize,
+        name: u32,
+        role: u32,
+        width: usize,
+        bit: *mut usize,
+    ) -> u8;
+    fn zela_close_span(
+        frame: *const u8,
+        frame_len: usize,
+        log: *mut u32,
+        log_words: usize,
+        pos: usize,
+        limit: usize,
+        block: i8,
+        count: *mut usize,
+        name: u32,
+        role: u32,
+        start: usize,
+        bit: *mut usize,
+    ) -> u8;
+    fn zela_check_tiling(
+        log: *const u32,
+        log_words: usize,
+        count: usize,
+        total: usize,
+        bit: *mut usize,
+    ) -> u8;
+    fn zela_element_at(
+        log: *const u32,
+        log_words: usize,
+        count: usize,
+        k: usize,
+        name: *mut u32,
+        role: *mut u32,
+        block: *mut i8,
+        index: *mut i16,
+        pos: *mut u32,
+        width: *mut u32,
+        value: *mut u32,
+        bit: *mut usize,
+    ) -> u8;
 }
 
 #[inline]
@@ -107,4 +186,177 @@ pub fn crc16_zeros(init: u16, n: usize) -> u16 {
     // SAFETY: as the module says. The answer is always 0: this function never refuses.
     unsafe { zela_crc16_zeros(init, n, &mut value) };
     value
+}
+
+#[inline]
+pub fn role_is_drc(role: Role) -> bool {
+    let mut is = false;
+    // SAFETY: as the module says. The answer is always 0: this function never refuses.
+    unsafe { zela_role_is_drc(role.word(), &mut is) };
+    is
+}
+
+#[inline]
+pub fn role_is_checksum(role: Role) -> bool {
+    let mut is = false;
+    // SAFETY: as the module says. The answer is always 0: this function never refuses.
+    unsafe { zela_role_is_checksum(role.word(), &mut is) };
+    is
+}
+
+#[inline]
+pub fn role_is_span(role: Role) -> bool {
+    let mut is = false;
+    // SAFETY: as the module says. The answer is always 0: this function never refuses.
+    unsafe { zela_role_is_span(role.word(), &mut is) };
+    is
+}
+
+#[inline]
+pub fn read_element(
+    frame: &[u8],
+    log: &mut [u32],
+    place: &mut Place,
+    ask: &Ask,
+) -> Result<u32, Refusal> {
+    let (mut value, mut bit) = (0, 0);
+    // SAFETY: as the module says.
+    let number = unsafe {
+        zela_read_element(
+            frame.as_ptr(),
+            frame.len(),
+            log.as_mut_ptr(),
+            log.len(),
+            &mut place.pos,
+            place.limit,
+            place.block,
+            &mut place.count,
+            ask.name,
+            ask.role.word(),
+            ask.index,
+            ask.width,
+            &mut value,
+            &mut bit,
+        )
+    };
+    outcome(number, bit, value)
+}
+
+#[inline]
+pub fn read_raw(frame: &[u8], place: &mut Place, width: usize) -> Result<u32, Refusal> {
+    let (mut value, mut bit) = (0, 0);
+    // SAFETY: as the module says.
+    let number = unsafe {
+        zela_read_raw(
+            frame.as_ptr(),
+            frame.len(),
+            &mut place.pos,
+            place.limit,
+            width,
+            &mut value,
+            &mut bit,
+        )
+    };
+    outcome(number, bit, value)
+}
+
+#[inline]
+pub fn span(
+    frame: &[u8],
+    log: &mut [u32],
+    place: &mut Place,
+    name: u32,
+    role: Role,
+    width: usize,
+) -> Result<(), Refusal> {
+    let mut bit = 0;
+    // SAFETY: as the module says.
+    let number = unsafe {
+        zela_span(
+            frame.as_ptr(),
+            frame.len(),
+            log.as_mut_ptr(),
+            log.len(),
+            &mut place.pos,
+            place.limit,
+            place.block,
+            &mut place.count,
+            name,
+            role.word(),
+            width,
+            &mut bit,
+        )
+    };
+    outcome(number, bit, ())
+}
+
+#[inline]
+pub fn close_span(
+    frame: &[u8],
+    log: &mut [u32],
+    place: &mut Place,
+    name: u32,
+    role: Role,
+    start: usize,
+) -> Result<(), Refusal> {
+    let mut bit = 0;
+    // SAFETY: as the module says.
+    let number = unsafe {
+        zela_close_span(
+            frame.as_ptr(),
+            frame.len(),
+            log.as_mut_ptr(),
+            log.len(),
+            place.pos,
+            place.limit,
+            place.block,
+            &mut place.count,
+            name,
+            role.word(),
+            start,
+            &mut bit,
+        )
+    };
+    outcome(number, bit, ())
+}
+
+#[inline]
+pub fn check_tiling(log: &[u32], count: usize, total: usize) -> Result<(), Refusal> {
+    let mut bit = 0;
+    // SAFETY: as the module says.
+    let number = unsafe { zela_check_tiling(log.as_ptr(), log.len(), count, total, &mut bit) };
+    outcome(number, bit, ())
+}
+
+#[inline]
+pub fn element_at(log: &[u32], count: usize, k: usize) -> Result<Element, Refusal> {
+    let (mut name, mut role, mut block, mut index) = (0, 0, 0, 0);
+    let (mut pos, mut width, mut value, mut bit) = (0, 0, 0, 0);
+    // SAFETY: as the module says.
+    let number = unsafe {
+        zela_element_at(
+            log.as_ptr(),
+            log.len(),
+            count,
+            k,
+            &mut name,
+            &mut role,
+            &mut block,
+            &mut index,
+            &mut pos,
+            &mut width,
+            &mut value,
+            &mut bit,
+        )
+    };
+    let element = Element {
+        name,
+        role: Role::of_word(role),
+        block,
+        index,
+        pos,
+        width,
+        value,
+    };
+    outcome(number, bit, element)
 }

@@ -20,6 +20,7 @@ mod ffi;
 mod refusal;
 #[cfg(not(target_arch = "x86_64"))]
 mod relay;
+pub mod syntax;
 
 #[cfg(target_arch = "x86_64")]
 use ffi as core;

@@ -3,8 +3,10 @@
 //! (`relay/relay.c`). This serves tests. It is slow, and its times say nothing.
 
 use crate::refusal::{outcome, Refusal};
+use crate::syntax::{Ask, Element, Place, Role};
+use std::borrow::Cow;
 use std::cell::RefCell;
-use std::io::{self, Read, Write};
+use std::io::{self, BufReader, Read, Write};
 use std::process::{Child, ChildStdin, ChildStdout, Command, Stdio};
 
 /// The kit's folder for this machine, and the program: the build script made it.
@@ -20,6 +22,15 @@ enum Function {
     BitsRangeZero,
     Crc16,
     Crc16Zeros,
+    RoleIsDrc,
+    RoleIsChecksum,
+    RoleIsSpan,
+    ReadElement,
+    ReadRaw,
+    Span,
+    CloseSpan,
+    CheckTiling,
+    ElementAt,
 }
 
 /// An argument of a call.
@@ -31,40 +42,67 @@ enum Argument<'a> {
     Changed(&'a mut [u8]),
     /// Room for a number, which passes without its length.
     Room(&'a mut [u8]),
+    /// A log lent for reading.
+    Log(&'a [u32]),
+    /// A log that the call may write to.
+    ChangedLog(&'a mut [u32]),
 }
 
-use Argument::{Bytes, Changed, Number, Room};
+use Argument::{Bytes, Changed, ChangedLog, Log, Number, Room};
 
 impl Argument<'_> {
     /// The argument as `relay.c` reads it: its kind, its number or its length, its bytes.
     fn put(&self, request: &mut Vec<u8>) {
-        let (kind, number, bytes): (u8, u64, &[u8]) = match self {
-            Number(number) => (0, *number, &[]),
-            Bytes(bytes) => (1, bytes.len() as u64, bytes),
-            Changed(bytes) => (1, bytes.len() as u64, bytes),
-            Room(room) => (2, room.len() as u64, room),
+        let (kind, bytes): (u8, Cow<[u8]>) = match self {
+            Number(number) => {
+                request.push(0);
+                return request.extend(number.to_le_bytes());
+            }
+            Bytes(bytes) => (1, Cow::Borrowed(bytes)),
+            Changed(bytes) => (1, Cow::Borrowed(bytes)),
+            Room(room) => (2, Cow::Borrowed(room)),
+            Log(log) => (3, Cow::Owned(log_bytes(log))),
+            ChangedLog(log) => (3, Cow::Owned(log_bytes(log))),
         };
         request.push(kind);
-        request.extend(number.to_le_bytes());
-        request.extend_from_slice(bytes);
+        request.extend((bytes.len() as u64).to_le_bytes());
+        request.extend_from_slice(&bytes);
     }
 
     /// Takes back what was lent, as it is after the call.
     fn take(&mut self, from: &mut impl Read) -> io::Result<()> {
         match self {
             Number(_) => Ok(()),
-            Bytes(bytes) => {
-                let mut after = vec![0; bytes.len()];
-                from.read_exact(&mut after)?;
-                if after == *bytes {
-                    return Ok(());
-                }
-                Err(io::Error::other("bytes lent for reading were written"))
-            }
+            Bytes(bytes) => take_unchanged(bytes, from),
             Changed(bytes) => from.read_exact(bytes),
             Room(room) => from.read_exact(room),
+            Log(log) => take_unchanged(&log_bytes(log), from),
+            ChangedLog(log) => {
+                let mut after = log_bytes(log);
+                from.read_exact(&mut after)?;
+                let words = after.as_chunks().0;
+                for (word, bytes) in log.iter_mut().zip(words) {
+                    *word = u32::from_le_bytes(*bytes);
+                }
+                Ok(())
+            }
         }
     }
+}
+
+/// A log's words as they stand in memory on x86-64.
+fn log_bytes(log: &[u32]) -> Vec<u8> {
+    log.iter().flat_map(|word| word.to_le_bytes()).collect()
+}
+
+/// Takes back bytes that a call may only read.
+fn take_unchanged(bytes: &[u8], from: &mut impl Read) -> io::Result<()> {
+    let mut after = vec![0; bytes.len()];
+    from.read_exact(&mut after)?;
+    if after == bytes {
+        return Ok(());
+    }
+    Err(io::Error::other("bytes lent for reading were written"))
 }
 
 /// A position, width or count.
@@ -72,12 +110,17 @@ fn size(size: usize) -> Argument<'static> {
     Number(size as u64)
 }
 
+/// A block or an index, which passes as a register holds it: its sign fills the word.
+fn signed(number: impl Into<i64>) -> Argument<'static> {
+    Number(number.into() as u64)
+}
+
 /// The process that has the archive.
 struct Relay {
     child: Child,
     // Closed by `drop` before the child is waited for.
     to: Option<ChildStdin>,
-    from: ChildStdout,
+    from: BufReader<ChildStdout>,
 }
 
 impl Relay {
@@ -92,7 +135,11 @@ impl Relay {
             .spawn()?;
         let to = child.stdin.take();
         match child.stdout.take() {
-            Some(from) => Ok(Relay { child, to, from }),
+            Some(from) => Ok(Relay {
+                child,
+                to,
+                from: BufReader::new(from),
+            }),
             None => Err(io::Error::other("no pipe from the emulator")),
         }
     }
@@ -206,4 +253,157 @@ pub fn crc16_zeros(init: u16, n: usize) -> u16 {
         &mut [Number(init.into()), size(n), Room(&mut value)],
     );
     u16::from_le_bytes(value)
+}
+
+fn role_is(function: Function, role: Role) -> bool {
+    let mut is = [0];
+    call(function, &mut [Number(role.word().into()), Room(&mut is)]);
+    is != [0]
+}
+
+pub fn role_is_drc(role: Role) -> bool {
+    role_is(Function::RoleIsDrc, role)
+}
+
+pub fn role_is_checksum(role: Role) -> bool {
+    role_is(Function::RoleIsChecksum, role)
+}
+
+pub fn role_is_span(role: Role) -> bool {
+    role_is(Function::RoleIsSpan, role)
+}
+
+pub fn read_element(
+    frame: &[u8],
+    log: &mut [u32],
+    place: &mut Place,
+    ask: &Ask,
+) -> Result<u32, Refusal> {
+    let (mut pos, mut count) = (place.pos.to_le_bytes(), place.count.to_le_bytes());
+    let (mut value, mut bit) = ([0; 4], [0; 8]);
+    let lent = &mut [
+        Bytes(frame),
+        ChangedLog(log),
+        Room(&mut pos),
+        size(place.limit),
+        signed(place.block),
+        Room(&mut count),
+        Number(ask.name.into()),
+        Number(ask.role.word().into()),
+        signed(ask.index),
+        size(ask.width),
+        Room(&mut value),
+        Room(&mut bit),
+    ];
+    let number = call(Function::ReadElement, lent);
+    place.pos = usize::from_le_bytes(pos);
+    place.count = usize::from_le_bytes(count);
+    outcome(number, usize::from_le_bytes(bit), u32::from_le_bytes(value))
+}
+
+pub fn read_raw(frame: &[u8], place: &mut Place, width: usize) -> Result<u32, Refusal> {
+    let mut pos = place.pos.to_le_bytes();
+    let (mut value, mut bit) = ([0; 4], [0; 8]);
+    let lent = &mut [
+        Bytes(frame),
+        Room(&mut pos),
+        size(place.limit),
+        size(width),
+        Room(&mut value),
+        Room(&mut bit),
+    ];
+    let number = call(Function::ReadRaw, lent);
+    place.pos = usize::from_le_bytes(pos);
+    outcome(number, usize::from_le_bytes(bit), u32::from_le_bytes(value))
+}
+
+pub fn span(
+    frame: &[u8],
+    log: &mut [u32],
+    place: &mut Place,
+    name: u32,
+    role: Role,
+    width: usize,
+) -> Result<(), Refusal> {
+    let (mut pos, mut count) = (place.pos.to_le_bytes(), place.count.to_le_bytes());
+    let mut bit = [0; 8];
+    let lent = &mut [
+        Bytes(frame),
+        ChangedLog(log),
+        Room(&mut pos),
+        size(place.limit),
+        signed(place.block),
+        Room(&mut count),
+        Number(name.into()),
+        Number(role.word().into()),
+        size(width),
+        Room(&mut bit),
+    ];
+    let number = call(Function::Span, lent);
+    place.pos = usize::from_le_bytes(pos);
+    place.count = usize::from_le_bytes(count);
+    outcome(number, usize::from_le_bytes(bit), ())
+}
+
+pub fn close_span(
+    frame: &[u8],
+    log: &mut [u32],
+    place: &mut Place,
+    name: u32,
+    role: Role,
+    start: usize,
+) -> Result<(), Refusal> {
+    let mut count = place.count.to_le_bytes();
+    let mut bit = [0; 8];
+    let lent = &mut [
+        Bytes(frame),
+        ChangedLog(log),
+        size(place.pos),
+        size(place.limit),
+        signed(place.block),
+        Room(&mut count),
+        Number(name.into()),
+        Number(role.word().into()),
+        size(start),
+        Room(&mut bit),
+    ];
+    let number = call(Function::CloseSpan, lent);
+    place.count = usize::from_le_bytes(count);
+    outcome(number, usize::from_le_bytes(bit), ())
+}
+
+pub fn check_tiling(log: &[u32], count: usize, total: usize) -> Result<(), Refusal> {
+    let mut bit = [0; 8];
+    let lent = &mut [Log(log), size(count), size(total), Room(&mut bit)];
+    let number = call(Function::CheckTiling, lent);
+    outcome(number, usize::from_le_bytes(bit), ())
+}
+
+pub fn element_at(log: &[u32], count: usize, k: usize) -> Result<Element, Refusal> {
+    let (mut name, mut role, mut block, mut index) = ([0; 4], [0; 4], [0], [0; 2]);
+    let (mut pos, mut width, mut value, mut bit) = ([0; 4], [0; 4], [0; 4], [0; 8]);
+    let lent = &mut [
+        Log(log),
+        size(count),
+        size(k),
+        Room(&mut name),
+        Room(&mut role),
+        Room(&mut block),
+        Room(&mut index),
+        Room(&mut pos),
+        Room(&mut width),
+        Room(&mut value),
+        Room(&mut bit),
+    ];
+    let number = call(Function::ElementAt, lent);
+    let element = Element {
+        name: u32::from_le_bytes(name),
+        role: Role::of_word(u32::from_le_bytes(role)),
+        block: i8::from_le_bytes(block),
+        index: i16::from_le_bytes(index),
+        pos: u32::from_le_bytes(pos),
+        width: u32::from_le_bytes(width),
+        value: u32::from_le_bytes(value),
+    };
+    outcome(number, usize::from_le_bytes(bit), element)
 }
