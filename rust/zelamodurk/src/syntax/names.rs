@@ -2,15 +2,15 @@
 //! own elements may have any number.
 
 /// The absolute exponent of a full bandwidth channel.
-pub const EXPS_ABSOLUTE: u32 = 1;
+pub const ABSEXP: u32 = 1;
 /// An exponent group of a full bandwidth channel.
 pub const EXPS: u32 = 2;
 /// The absolute exponent of coupling.
-pub const CPLEXPS_ABSOLUTE: u32 = 3;
+pub const CPLABSEXP: u32 = 3;
 /// An exponent group of coupling.
 pub const CPLEXPS: u32 = 4;
 /// The absolute exponent of LFE.
-pub const LFEEXPS_ABSOLUTE: u32 = 5;
+pub const LFEABSEXP: u32 = 5;
 /// An exponent group of LFE.
 pub const LFEEXPS: u32 = 6;
 
