@@ -1,0 +1,9 @@
+pub mod BandLaws
+pub mod Cases
+pub mod CodeLaws
+pub mod Examples
+pub mod RangeLaws
+pub mod Signed
+pub mod TableLaws
+pub mod Turns
+pub mod Unique

@@ -1,0 +1,84 @@
+-- One turn of each loop, and its first: what a definition is at the next bin, band or segment.
+-- Assumes nothing.
+use Prim.Native.Nat.{ℕ, _<_, _≤_, _+_, _-_, _*_, min, suc}
+use mathlib.Core.Path.{_≡_, ap, _∙_, refl}
+use mathlib.Core.List.{List}
+use native.Mathlib.Omega.{arith}
+use lib.ListN.{getD, set}
+use lib.IntN.{ℤ, pos, _+ℤ_}
+use Rattle.alloc.specs.declared.Carried.{Carried}
+use Rattle.alloc.specs.declared.Curve.{Curve}
+use Rattle.alloc.specs.Clauses.{logadd, bandSum, maskAt, masksOf, deltaOf, addSegment, segmentEnd, deltasOf, bapAt, bapsOf}
+use Rattle.alloc.specs.Excite.{step, leakAt}
+use Rattle.alloc.proofs.TableLaws.{fill-turn, blend-turn, blend-clip}
+
+-- one bin more
+pub bandSum-next : (latab : List ℕ) (psd : ℕ → ℤ) (lo j : ℕ) → lo < j
+    → bandSum latab psd lo (j + 1 - 1 - lo) ≡ logadd latab (bandSum latab psd lo (j - 1 - lo)) (psd j)
+unfolding bandSum
+bandSum-next latab psd lo j h =
+    let e : j + 1 - 1 - lo ≡ suc (j - 1 - lo) = omega arith in
+    let e' : lo + suc (j - 1 - lo) ≡ j = omega arith in
+    ap (bandSum latab psd lo) e ∙ ap (λ (k : ℕ). logadd latab (bandSum latab psd lo (j - 1 - lo)) (psd k)) e'
+
+pub bandSum-first : (latab : List ℕ) (psd : ℕ → ℤ) (lo : ℕ) → bandSum latab psd lo (lo + 1 - 1 - lo) ≡ psd lo
+unfolding bandSum
+bandSum-first latab psd lo =
+    let e : lo + 1 - 1 - lo ≡ 0 = omega arith in
+    ap (bandSum latab psd lo) e
+
+-- 6.2.2.6
+pub segment-turn : (d : ℤ) (a k : ℕ) (mask : List ℤ) (v : ℤ) → a ≤ k → v ≡ getD mask k (pos 0) +ℤ d
+    → set (addSegment d a k mask) k v ≡ addSegment d a (k + 1) mask
+unfolding addSegment
+segment-turn d a k mask v h e = blend-turn 50 a k (λ (j : ℕ). getD mask j (pos 0) +ℤ d) (λ (j : ℕ). getD mask j (pos 0)) v h e
+
+pub segment-clip : (d : ℤ) (a b : ℕ) (mask : List ℤ) → addSegment d (min a 50) (min b 50) mask ≡ addSegment d a b mask
+unfolding addSegment
+segment-clip d a b mask = blend-clip 50 a b (λ (j : ℕ). getD mask j (pos 0) +ℤ d) (λ (j : ℕ). getD mask j (pos 0)) (pos 0)
+
+pub baps-turn : (baptab : List ℕ) (psd mask : ℕ → ℤ) (snr floor : ℤ) (start i v : ℕ) → start ≤ i → v ≡ bapAt baptab psd mask snr floor i
+    → set (bapsOf baptab psd mask snr floor start i) i v ≡ bapsOf baptab psd mask snr floor start (i + 1)
+unfolding bapsOf
+baps-turn baptab psd mask snr floor start i v h e = fill-turn 256 start i 0 (bapAt baptab psd mask snr floor) v h e
+
+pub masks-turn : (excite power : ℕ → ℤ) (knee : ℤ) (hearing : List ℕ) (fscod first k : ℕ) (v : ℤ) → first ≤ k
+    → v ≡ maskAt (excite k) (power k) knee (getD hearing (50 * fscod + k) 0)
+    → set (masksOf excite power knee hearing fscod first k) k v ≡ masksOf excite power knee hearing fscod first (k + 1)
+unfolding masksOf
+masks-turn excite power knee hearing fscod first k v h e =
+    fill-turn 50 first k (pos 0) (λ k. maskAt (excite k) (power k) knee (getD hearing (50 * fscod + k) 0)) v h e
+
+pub segmentEnd-next : (offs lens : List ℕ) (n : ℕ) → segmentEnd offs lens (n + 1) ≡ segmentEnd offs lens n + getD offs n 0 + getD lens n 0
+unfolding segmentEnd
+segmentEnd-next offs lens n =
+    let e : n + 1 ≡ suc n = omega arith in
+    ap (segmentEnd offs lens) e
+
+pub deltas-next : (offs lens bas : List ℕ) (mask : List ℤ) (n : ℕ)
+    → deltasOf offs lens bas mask (n + 1)
+    ≡ addSegment (deltaOf (getD bas n 0)) (segmentEnd offs lens n + getD offs n 0) (segmentEnd offs lens n + getD offs n 0 + getD lens n 0)
+    (deltasOf offs lens bas mask n)
+unfolding deltasOf
+deltas-next offs lens bas mask n =
+    let e : n + 1 ≡ suc n = omega arith in
+    ap (deltasOf offs lens bas mask) e
+
+pub deltas-zero : (offs lens bas : List ℕ) (mask : List ℤ) → (mask ≡ deltasOf offs lens bas mask 0) × (0 ≡ segmentEnd offs lens 0)
+unfolding deltasOf segmentEnd
+deltas-zero offs lens bas mask = (refl, refl)
+
+-- one band more
+pub leakAt-next : (c : Curve) (first end : ℕ) (p : ℕ → ℤ) (s : Carried) (k : ℕ) → first ≤ k
+    → leakAt c first end p s (k + 1 - first) ≡ step c first end p k (leakAt c first end p s (k - first))
+unfolding leakAt
+leakAt-next c first end p s k h =
+    let e : k + 1 - first ≡ suc (k - first) = omega arith in
+    let e' : first + (k - first) ≡ k = omega arith in
+    ap (leakAt c first end p s) e ∙ ap (λ (j : ℕ). step c first end p j (leakAt c first end p s (k - first))) e'
+
+pub leakAt-first : (c : Curve) (first end : ℕ) (p : ℕ → ℤ) (s : Carried) → leakAt c first end p s (first - first) ≡ s
+unfolding leakAt
+leakAt-first c first end p s =
+    let e : first - first ≡ 0 = omega arith in
+    ap (leakAt c first end p s) e

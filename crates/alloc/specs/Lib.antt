@@ -1,0 +1,10 @@
+pub mod Numbers
+pub mod Table
+pub mod Bands
+pub mod Codes
+pub mod Clauses
+pub mod Excite
+pub mod Ranges
+pub mod Channel
+pub mod Pointers
+pub mod Answers
