@@ -10,16 +10,17 @@ use borrow.Author.Tests.{le-leb, lt-leb, le-ltb, lt-ltb}
 use Rattle.refusal.specs.Refusals.{taken, refused, grounds}
 use Rattle.alloc.specs.declared.Codes.{Codes}
 use Rattle.alloc.specs.declared.Leak.{Leak}
-use Rattle.alloc.specs.declared.Delta.{Delta}
-use Rattle.alloc.specs.declared.Pointers.{Pointers}
+use Rattle.tables.specs.declared.Delta.{Delta}
+use Rattle.tables.specs.declared.Pointers.{Pointers}
 use Rattle.alloc.specs.declared.Curve.{Curve}
 use Rattle.alloc.specs.declared.Levels.{Levels}
 use Rattle.alloc.specs.declared.Carried.{Carried}
-use Rattle.alloc.specs.Codes.{curveOf, levelsOf, startOf}
-use Rattle.alloc.specs.Pointers.{tableOf}
+use Rattle.alloc.specs.Params.{curveOf, levelsOf, startOf}
+use Rattle.tables.specs.Pointers.{tableOf}
 use Rattle.alloc.specs.Channel.{pointersOf}
-use Rattle.alloc.specs.Answers.{zeros, upto, lentFits, tablesFit, deltaFits, channelOf, filled, allocateOf}
-use Rattle.alloc.proofs.CodeLaws.{and-left, and-right}
+use Rattle.tables.specs.Fits.{upto, lentFits, tablesFit, deltaFits}
+use Rattle.alloc.specs.Answers.{zeros, channelOf, filled, allocateOf}
+use Rattle.tables.proofs.FitLaws.{and-left, and-right}
 
 -- a channel whose parameters are decoded
 module _ (exp : List ℕ) (start end : ℕ) (c : Curve) (v : Levels) (s : Carried) (d : Delta) (which : Pointers) (hearing logAdd : List ℕ) where

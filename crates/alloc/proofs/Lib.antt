@@ -1,9 +1,6 @@
-pub mod BandLaws
 pub mod Cases
-pub mod CodeLaws
-pub mod Examples
+pub mod ParamLaws
 pub mod RangeLaws
-pub mod Signed
 pub mod TableLaws
 pub mod Turns
 pub mod Unique

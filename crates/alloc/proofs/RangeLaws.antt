@@ -12,16 +12,16 @@ use lib.Dec.{ltb, eqb, leb}
 use lib.Signed.{shrZ, ltZ}
 use Rattle.alloc.specs.declared.Carried.{Carried}
 use Rattle.alloc.specs.declared.Curve.{Curve}
-use Rattle.alloc.specs.Numbers.{up, maxZ, Within, Each}
+use Rattle.tables.specs.Numbers.{up, maxZ, Within, Each}
 use Rattle.alloc.specs.Table.{inside, blend}
-use Rattle.alloc.specs.Bands.{bandStart, bandOf}
+use Rattle.tables.specs.Bands.{bandStart, bandOf}
 use Rattle.alloc.specs.Clauses.{rises, psdOf, powersOf, logadd, bandSum, bandPower, bandPowers, lowStep, calcLowcomp, maskAt, masksOf, deltaOf, addSegment, segmentEnd, deltasOf, maskStep}
 use Rattle.alloc.specs.Excite.{decayed, stepFirst, stepBegin, stepLow, stepHigh, lowNext, stepFull, step, leakAt, exciteAt, exciteOf}
 use Rattle.alloc.specs.Ranges.{Tame, Kept}
 use Rattle.alloc.specs.Channel.{of, stopOf}
-use Rattle.alloc.proofs.Signed.{parts, add-law, min-law, shr4-law, max-law, within-cond, within-max, within-sub, within-add, widen}
+use Rattle.tables.proofs.Signed.{parts, add-law, min-law, shr4-law, max-law, within-cond, within-max, within-sub, within-add, widen}
 use Rattle.alloc.proofs.TableLaws.{table-each, inside-within}
-use Rattle.alloc.proofs.BandLaws.{in-band}
+use Rattle.tables.proofs.BandLaws.{in-band}
 
 pub psd-within : (e : ℕ) → e < 256 → Within 29568 3072 (psdOf e)
 unfolding psdOf

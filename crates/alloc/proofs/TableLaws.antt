@@ -13,9 +13,8 @@ use native.Mathlib.Nat.{le-of-suc-le-suc}
 use mathlib.Core.Logic.{_≢_}
 use native.Mathlib.Decide.{ℕ-discrete}
 use lib.Seq.{ext-getD, getD-set-same, getD-set-other}
-use Rattle.alloc.specs.Numbers.{Within, Each}
+use Rattle.tables.specs.Numbers.{Within, Each}
 use Rattle.alloc.specs.Table.{from, table, inside, blend}
-use Rattle.alloc.proofs.BandLaws.{both}
 
 clip-low : (n a k : ℕ) → k < n → (t : Bool) → leb a k ≡ t → leb (min a n) k ≡ t
 clip-low n a k p true e = le-leb (min a n) k (omega (arith, leb-true a k e))
@@ -126,6 +125,39 @@ module _ {X : Type 0} where
   pub blend-turn : (n start i : ℕ) (f g : ℕ → X) (v : X) → start ≤ i → v ≡ f i → set (table n (blend start i f g)) i v ≡ table n (blend start (i + 1) f g)
   blend-turn n start i f g v h e =
       set-table n (blend start i f g) (blend start (i + 1) f g) i v (e ∙ sym (blend-in start (i + 1) f g i h (omega arith))) (λ k p q. blend-suc start i f g k q)
+
+  pub blend-before : (start end : ℕ) (f g : ℕ → X) (k : ℕ) → k < start → blend start end f g k ≡ g k
+  unfolding blend
+  blend-before start end f g k h = rw (lt-leb start k h)
+
+  -- what is filled from lo to hi goes on from what is filled up to lo
+  pub blend-inside : (n start lo hi : ℕ) (z : X) (f g : ℕ → X) → start ≤ lo → lo ≤ hi → ((j : ℕ) → lo ≤ j → j < hi → f j ≡ g j)
+      → table n (blend lo hi f (λ j. getD (table n (inside start lo z g)) j z)) ≡ table n (inside start hi z g)
+  blend-inside n start lo hi z f g p q h = table-ext n (blend lo hi f old) (inside start hi z g) z (λ j l. at j l (leb lo j) (ltb j hi) refl refl)
+    where
+      old : ℕ → X
+      old j = getD (table n (inside start lo z g)) j z
+
+      early : (j : ℕ) → j < lo → (t : Bool) → leb start j ≡ t → inside start lo z g j ≡ inside start hi z g j
+      early j l true e =
+          let s = leb-true start j e in
+          inside-in start lo z g j s l ∙ sym (inside-in start hi z g j s (omega arith))
+      early j l false e =
+          let s = leb-false start j e in
+          inside-before start lo z g j s ∙ sym (inside-before start hi z g j s)
+
+      at : (j : ℕ) → j < n → (a b : Bool) → leb lo j ≡ a → ltb j hi ≡ b → blend lo hi f old j ≡ inside start hi z g j
+      at j l true true s t =
+          let u = leb-true lo j s in
+          let v = ltb-true j hi t in
+          blend-in lo hi f old j u v ∙ h j u v ∙ sym (inside-in start hi z g j (omega arith) v)
+      at j l true false s t =
+          let u = leb-true lo j s in
+          let v = ltb-false j hi t in
+          blend-after lo hi f old j v ∙ getD-table n (inside start lo z g) j z l ∙ inside-after start lo z g j u ∙ sym (inside-after start hi z g j v)
+      at j l false b s t =
+          let u = leb-false lo j s in
+          blend-before lo hi f old j u ∙ getD-table n (inside start lo z g) j z l ∙ early j u (leb start j) refl
 
   -- a list is the table of its own places
   pub table-of : (n start : ℕ) (f : ℕ → X) (l : List X) (d : X) → length l ≡ n → l ≡ table n (blend start start f (λ k. getD l k d))

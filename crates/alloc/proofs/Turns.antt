@@ -4,13 +4,15 @@ use Prim.Native.Nat.{ℕ, _<_, _≤_, _+_, _-_, _*_, min, suc}
 use mathlib.Core.Path.{_≡_, ap, _∙_, refl}
 use mathlib.Core.List.{List}
 use native.Mathlib.Omega.{arith}
-use lib.ListN.{getD, set}
+use lib.ListN.{length, getD, set}
 use lib.IntN.{ℤ, pos, _+ℤ_}
 use Rattle.alloc.specs.declared.Carried.{Carried}
 use Rattle.alloc.specs.declared.Curve.{Curve}
-use Rattle.alloc.specs.Clauses.{logadd, bandSum, maskAt, masksOf, deltaOf, addSegment, segmentEnd, deltasOf, bapAt, bapsOf}
+use Rattle.alloc.specs.Clauses.{logadd, bandSum, maskAt, masksOf, deltaOf, addSegment, segmentEnd, deltasOf, address, bapAt, bapsOf, pointed, maskStep}
+use Rattle.tables.specs.Bands.{bandOf}
+use Rattle.alloc.specs.Table.{inside}
 use Rattle.alloc.specs.Excite.{step, leakAt}
-use Rattle.alloc.proofs.TableLaws.{fill-turn, blend-turn, blend-clip}
+use Rattle.alloc.proofs.TableLaws.{fill-turn, blend-turn, blend-clip, blend-inside, table-of, length-table}
 
 -- one bin more
 pub bandSum-next : (latab : List ℕ) (psd : ℕ → ℤ) (lo j : ℕ) → lo < j
@@ -37,10 +39,28 @@ pub segment-clip : (d : ℤ) (a b : ℕ) (mask : List ℤ) → addSegment d (min
 unfolding addSegment
 segment-clip d a b mask = blend-clip 50 a b (λ (j : ℕ). getD mask j (pos 0) +ℤ d) (λ (j : ℕ). getD mask j (pos 0)) (pos 0)
 
-pub baps-turn : (baptab : List ℕ) (psd mask : ℕ → ℤ) (snr floor : ℤ) (start i v : ℕ) → start ≤ i → v ≡ bapAt baptab psd mask snr floor i
-    → set (bapsOf baptab psd mask snr floor start i) i v ≡ bapsOf baptab psd mask snr floor start (i + 1)
+-- 6.2.2.7
+pub pointed-turn : (baptab : List ℕ) (psd : ℕ → ℤ) (m : ℤ) (lo i : ℕ) (out : List ℕ) (v : ℕ) → lo ≤ i → v ≡ getD baptab (address (psd i) m) 0
+    → set (pointed baptab psd m lo i out) i v ≡ pointed baptab psd m lo (i + 1) out
+unfolding pointed
+pointed-turn baptab psd m lo i out v h e = blend-turn 256 lo i (λ (j : ℕ). getD baptab (address (psd j) m) 0) (λ (j : ℕ). getD out j 0) v h e
+
+pub pointed-none : (baptab : List ℕ) (psd : ℕ → ℤ) (m : ℤ) (lo : ℕ) (out : List ℕ) → length out ≡ 256 → out ≡ pointed baptab psd m lo lo out
+unfolding pointed
+pointed-none baptab psd m lo out e = table-of 256 lo (λ (j : ℕ). getD baptab (address (psd j) m) 0) out 0 e
+
+pub baps-length : (baptab : List ℕ) (psd mask : ℕ → ℤ) (snr floor : ℤ) (start n : ℕ) → length (bapsOf baptab psd mask snr floor start n) ≡ 256
 unfolding bapsOf
-baps-turn baptab psd mask snr floor start i v h e = fill-turn 256 start i 0 (bapAt baptab psd mask snr floor) v h e
+baps-length baptab psd mask snr floor start n = length-table 256 (inside start n 0 (bapAt baptab psd mask snr floor))
+
+-- a band more, of whose bins m is the mask
+pub baps-band : (baptab : List ℕ) (psd mask : ℕ → ℤ) (snr floor m : ℤ) (start lo hi : ℕ) → start ≤ lo → lo ≤ hi
+    → ((j : ℕ) → lo ≤ j → j < hi → m ≡ maskStep (mask (bandOf j)) snr floor)
+    → pointed baptab psd m lo hi (bapsOf baptab psd mask snr floor start lo) ≡ bapsOf baptab psd mask snr floor start hi
+unfolding pointed bapsOf bapAt
+baps-band baptab psd mask snr floor m start lo hi p q h =
+    blend-inside 256 start lo hi 0 (λ (j : ℕ). getD baptab (address (psd j) m) 0) (bapAt baptab psd mask snr floor) p q
+    (λ j l k. ap (λ (x : ℤ). getD baptab (address (psd j) x) 0) (h j l k))
 
 pub masks-turn : (excite power : ℕ → ℤ) (knee : ℤ) (hearing : List ℕ) (fscod first k : ℕ) (v : ℤ) → first ≤ k
     → v ≡ maskAt (excite k) (power k) knee (getD hearing (50 * fscod + k) 0)

@@ -1,24 +1,25 @@
 -- What `allocate` answers, for all inputs, by document 01's numbers and in its order: "One channel alone takes codes too: 21, 11, the empty
 -- range, 6, 8, in this order". There is no cursor here, so a refusal's bit is 0.
 -- Assumes nothing.
-use Prim.Native.Nat.{ℕ, zero, suc, _+_, _-_}
+use Prim.Native.Nat.{ℕ, _-_}
 use mathlib.Core.List.{List}
-use mathlib.Core.Bool.{Bool, true, cond, not, _&&_}
-use lib.Dec.{ltb, leb, eqb}
-use lib.ListN.{length, getD, replicate}
+use mathlib.Core.Bool.{cond, not}
+use lib.Dec.{ltb, leb}
+use lib.ListN.{replicate}
 use Rattle.refusal.specs.Refusals.{Outcome, taken, refused, told, refuseIf, andThen, Ran}
 use Rattle.alloc.specs.declared.Ended.{Ended}
 use Rattle.alloc.specs.declared.Ended.the-variants as ended
 use Rattle.alloc.specs.declared.Allocated.{Allocated}
 use Rattle.alloc.specs.declared.Codes.{Codes}
 use Rattle.alloc.specs.declared.Leak.{Leak}
-use Rattle.alloc.specs.declared.Delta.{Delta}
-use Rattle.alloc.specs.declared.Pointers.{Pointers}
+use Rattle.tables.specs.declared.Delta.{Delta}
+use Rattle.tables.specs.declared.Pointers.{Pointers}
 use Rattle.alloc.specs.declared.Curve.{Curve}
 use Rattle.alloc.specs.declared.Carried.{Carried}
 use Rattle.alloc.specs.declared.Levels.{Levels}
-use Rattle.alloc.specs.Codes.{curveOf, levelsOf, startOf}
-use Rattle.alloc.specs.Pointers.{tableOf}
+use Rattle.tables.specs.Fits.{upto, tablesFit, deltaFits}
+use Rattle.tables.specs.Pointers.{tableOf}
+use Rattle.alloc.specs.Params.{curveOf, levelsOf, startOf}
 use Rattle.alloc.specs.Channel.{pointersOf}
 
 -- what an answer means
@@ -29,23 +30,6 @@ endedOf (ended.Refused r) = told r
 -- with the pointers beside it
 abbrev pub allocatedOf : Allocated → Ran (List ℕ) Unit
 allocatedOf r = record { outcome = endedOf (r .answer); state = r .bap }
-
--- the n numbers of a list from place start on are at most top
-unfoldable pub upto : ℕ → List ℕ → ℕ → ℕ → Bool
-upto top l start zero = true
-upto top l start (suc n) = upto top l start n && leb (getD l (start + n) 0) top
-
--- a lent table of n entries, each at most top
-unfoldable pub lentFits : ℕ → ℕ → List ℕ → Bool
-lentFits n top l = eqb (length l) n && upto top l 0 n
-
--- "HEARING (150 entries, 0..4095) and LOG_ADD (256 entries, 0..64) are lent by the caller and tested"
-unfoldable pub tablesFit : List ℕ → List ℕ → Bool
-tablesFit hearing logAdd = lentFits 150 4095 hearing && lentFits 256 64 logAdd
-
--- "at most 8 segments, each 31, 15, 7"
-unfoldable pub deltaFits : Delta → Bool
-deltaFits d = leb (d .count) 8 && (upto 31 (d .offset) 0 (d .count) && (upto 15 (d .len) 0 (d .count) && upto 7 (d .ba) 0 (d .count)))
 
 -- 256 bins, all zero
 abbrev pub zeros : List ℕ

@@ -7,8 +7,8 @@ use lib.IntN.{ℤ, pos}
 use Rattle.alloc.specs.declared.Carried.{Carried}
 use Rattle.alloc.specs.declared.Curve.{Curve}
 use Rattle.alloc.specs.declared.Levels.{Levels}
-use Rattle.alloc.specs.declared.Delta.{Delta}
-use Rattle.alloc.specs.Bands.{bandOf}
+use Rattle.tables.specs.declared.Delta.{Delta}
+use Rattle.tables.specs.Bands.{bandOf}
 use Rattle.alloc.specs.Clauses.{powersOf, bandPowers, masksOf, deltasOf, bapsOf}
 use Rattle.alloc.specs.Excite.{exciteOf}
 

@@ -7,9 +7,9 @@ use lib.IntN.{ℤ, pos, _-ℤ_, _+ℤ_, natAbs}
 use mathlib.Core.Bool.{Bool, cond}
 use lib.Dec.{ltb}
 use lib.Signed.{shrZ, ltZ}
-use Rattle.alloc.specs.Numbers.{up, maxZ, eqZ}
+use Rattle.tables.specs.Numbers.{up, maxZ, eqZ}
 use Rattle.alloc.specs.Table.{table, inside, blend}
-use Rattle.alloc.specs.Bands.{bandStart, bandOf}
+use Rattle.tables.specs.Bands.{bandStart, bandOf}
 
 -- 6.2.2.2: the power of a bin
 unfoldable pub psdOf : ℕ → ℤ
@@ -94,3 +94,7 @@ bapAt baptab psd mask snr floor i = getD baptab (address (psd i) (maskStep (mask
 -- the pointers of the bins from start to n, and 0 elsewhere
 unfoldable pub bapsOf : List ℕ → (ℕ → ℤ) → (ℕ → ℤ) → ℤ → ℤ → ℕ → ℕ → List ℕ
 bapsOf baptab psd mask snr floor start n = table 256 (inside start n 0 (bapAt baptab psd mask snr floor))
+
+-- the same of the bins from lo to hi alone, which share the mask m; the others are as they were
+unfoldable pub pointed : List ℕ → (ℕ → ℤ) → ℤ → ℕ → ℕ → List ℕ → List ℕ
+pointed baptab psd m lo hi out = table 256 (blend lo hi (λ i. getD baptab (address (psd i) m) 0) (λ i. getD out i 0))

@@ -9,7 +9,7 @@ use lib.Dec.{ltb, eqb}
 use lib.Signed.{leZ}
 use Rattle.alloc.specs.declared.Carried.{Carried}
 use Rattle.alloc.specs.declared.Curve.{Curve}
-use Rattle.alloc.specs.Numbers.{maxZ}
+use Rattle.tables.specs.Numbers.{maxZ}
 use Rattle.alloc.specs.Table.{table, inside}
 use Rattle.alloc.specs.Clauses.{calcLowcomp}
 

@@ -1,10 +1,7 @@
-pub mod Numbers
 pub mod Table
-pub mod Bands
-pub mod Codes
+pub mod Params
 pub mod Clauses
 pub mod Excite
 pub mod Ranges
 pub mod Channel
-pub mod Pointers
 pub mod Answers

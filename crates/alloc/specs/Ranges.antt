@@ -6,8 +6,8 @@ use lib.IntN.{ℤ}
 use Rattle.alloc.specs.declared.Carried.{Carried}
 use Rattle.alloc.specs.declared.Curve.{Curve}
 use Rattle.alloc.specs.declared.Levels.{Levels}
-use Rattle.alloc.specs.declared.Delta.{Delta}
-use Rattle.alloc.specs.Numbers.{Within, Each, Upto}
+use Rattle.tables.specs.declared.Delta.{Delta}
+use Rattle.tables.specs.Numbers.{Within, Each, Upto}
 
 -- a bin's power, of any byte as exponent
 abbrev pub Power : ℤ → Type 0

@@ -1,29 +1,28 @@
 // Bit allocation of one channel, ETSI TS 102 366 V1.4.1 ("TS") 6.2.2: from its exponents and side information to the pointers of its bins.
 use refusal::Refusal;
 use refusal::Why;
+use tables::Band;
+use tables::Bin;
+use tables::Coded;
+use tables::Delta;
+use tables::Pointers;
 ghost use mathlib.Core.Path.{_≡_};
 ghost use Prim.Native.Nat.{_+_, _-_, _<_, _≤_, _*_, _/_, min, max};
-ghost use lib.ListN.{getD};
+ghost use lib.ListN.{length, getD};
 ghost use mathlib.Core.Bool.{true, not, _&&_};
-ghost use lib.Dec.{ltb, eqb, leb};
+ghost use lib.Dec.{ltb, eqb};
 ghost use lib.IntN.{pos, natAbs, _-ℤ_};
-ghost use lib.Signed.{leZ};
+ghost use lib.Signed.{leZ, shrZ};
 ghost use Rattle.refusal.specs.Refusals.{numberOf, grounds, refused as refusedOf};
-ghost use Rattle.alloc.specs.Numbers.{Upto, maxZ};
-ghost use Rattle.alloc.specs.Bands.{bandStart, bandOf};
-ghost use Rattle.alloc.specs.Codes.{codeAt, slowDecay, fastDecay, slowGain, kneeTable, floorTable, fastGain, leakOf, snrOffset, fineOf, snrOf, curveOf, levelsOf, startOf, codedOf, curvedOf, leveledOf, begunOf, leaksOf};
-ghost use Rattle.alloc.specs.Clauses.{logadd as logaddOf, rises as risesOf, lowStep, calcLowcomp, maskStep, bandSum, maskAt, masksOf, deltasOf, segmentEnd, deltaOf, addSegment, bapsOf, bandPower, bandPowers, psdOf, powersOf, address as addressOf};
+ghost use Rattle.tables.specs.Numbers.{Upto, maxZ};
+ghost use Rattle.tables.specs.Bands.{bandOf};
+ghost use Rattle.tables.specs.Fits.{upto};
+ghost use Rattle.alloc.specs.Params.{curveOf, levelsOf, startOf, curvedOf, leveledOf, begunOf, leaksOf};
+ghost use Rattle.alloc.specs.Clauses.{logadd as logaddOf, rises as risesOf, lowStep, calcLowcomp, maskStep, bandSum, maskAt, masksOf, deltasOf, segmentEnd, deltaOf, addSegment, bapsOf, pointed, bandPower, bandPowers, psdOf, powersOf, address as addressOf};
 ghost use Rattle.alloc.specs.Excite.{decayed, stepFirst, stepBegin, stepLow, stepHigh, stepFull, lowNext, step, exciteOf};
 ghost use Rattle.alloc.specs.Ranges.{Power, Powers, BandPowers, Sum, Sums, Excited, Excitations, Low, Gain, Knee, Floor, Snr, Masks, ShiftedMask, ShiftedMasks, Shift, Cut, Tame, Kept, Level, Segments};
 ghost use Rattle.alloc.specs.Channel.{masksFrom, pointersOf};
-ghost use Rattle.alloc.specs.Pointers.{tableOf};
-ghost use Rattle.alloc.specs.Answers.{allocatedOf, upto, lentFits, tablesFit, deltaFits, channelOf, filled, allocateOf};
-
-// The number of a bin. A bin becomes a band, and a band a bin, only by the rule of the bands' first bins.
-pub struct Bin(pub usize);
-
-// The number of a band.
-pub struct Band(pub usize);
+ghost use Rattle.alloc.specs.Answers.{allocatedOf, channelOf, filled, allocateOf};
 
 // The side information of a channel by its names in TS, not yet decoded.
 pub struct Codes {
@@ -44,20 +43,6 @@ pub enum Leak {
     Codes(u8, u8),
 }
 
-// The delta segments, deltoffst, deltlen and deltba: the first `count` of each array.
-pub struct Delta {
-    pub count: u8,
-    pub offset: [u8; 8],
-    pub len: [u8; 8],
-    pub ba: [u8; 8],
-}
-
-// Which table of pointers: TS 6.2.2.7, or TS E.2.4.3.1.
-pub enum Pointers {
-    Bap,
-    Hebap,
-}
-
 // How a call ended that answers no value.
 pub enum Ended {
     Done,
@@ -68,139 +53,6 @@ pub enum Ended {
 pub struct Allocated {
     pub answer: Ended,
     pub bap: [u8; 256],
-}
-
-// A code's value, or that the code is past its table.
-enum Coded {
-    Value(i32),
-    Past,
-}
-
-// 6.2.2.1: the slow decay, by sdcycod.
-fn slow_decay(code: u8) -> Coded
-    ensures { λ r. ⌜ codedOf r ≡ codeAt slowDecay code ⌝ }
-{
-    match code {
-        0 => Coded::Value(15),
-        1 => Coded::Value(17),
-        2 => Coded::Value(19),
-        3 => Coded::Value(21),
-        _ => Coded::Past,
-    }
-}
-
-// The fast decay, by fdcycod.
-fn fast_decay(code: u8) -> Coded
-    ensures { λ r. ⌜ codedOf r ≡ codeAt fastDecay code ⌝ }
-{
-    match code {
-        0 => Coded::Value(63),
-        1 => Coded::Value(83),
-        2 => Coded::Value(103),
-        3 => Coded::Value(123),
-        _ => Coded::Past,
-    }
-}
-
-// The slow gain, by sgaincod.
-fn slow_gain(code: u8) -> Coded
-    ensures { λ r. ⌜ codedOf r ≡ codeAt slowGain code ⌝ }
-{
-    match code {
-        0 => Coded::Value(0x540),
-        1 => Coded::Value(0x4D8),
-        2 => Coded::Value(0x478),
-        3 => Coded::Value(0x410),
-        _ => Coded::Past,
-    }
-}
-
-// The knee, by dbpbcod.
-fn knee_of(code: u8) -> Coded
-    ensures { λ r. ⌜ codedOf r ≡ codeAt kneeTable code ⌝ }
-{
-    match code {
-        0 => Coded::Value(0),
-        1 => Coded::Value(0x700),
-        2 => Coded::Value(0x900),
-        3 => Coded::Value(0xB00),
-        _ => Coded::Past,
-    }
-}
-
-// The floor, by floorcod. The last is the word 0xF800, signed.
-fn floor_of(code: u8) -> Coded
-    ensures { λ r. ⌜ codedOf r ≡ codeAt floorTable code ⌝ }
-{
-    match code {
-        0 => Coded::Value(0x2F0),
-        1 => Coded::Value(0x2B0),
-        2 => Coded::Value(0x270),
-        3 => Coded::Value(0x230),
-        4 => Coded::Value(0x1F0),
-        5 => Coded::Value(0x170),
-        6 => Coded::Value(0x0F0),
-        7 => Coded::Value(-2048),
-        _ => Coded::Past,
-    }
-}
-
-// The fast gain, by fgaincod.
-fn fast_gain(code: u8) -> Coded
-    ensures { λ r. ⌜ codedOf r ≡ fastGain code ⌝ }
-{
-    match code {
-        0..=7 => {
-            let n = 128 * ((code as i32) + 1);
-            Coded::Value(n)
-        }
-        _ => Coded::Past,
-    }
-}
-
-// A leak of the coupling channel, by cplfleak or cplsleak.
-fn leak_of(code: u8) -> Coded
-    ensures { λ r. ⌜ codedOf r ≡ leakOf code ⌝ }
-{
-    match code {
-        0..=7 => {
-            let n = 256 * (code as i32) + 768;
-            Coded::Value(n)
-        }
-        _ => Coded::Past,
-    }
-}
-
-// The SNR offset, by csnroffst and fsnroffst: down to -960.
-fn snr_offset(csnr: u8, fsnr: u8) -> i32
-    requires { ⌜ (csnr ≤ 63) × (fsnr ≤ 15) ⌝ }
-    ensures { λ r. ⌜ r ≡ snrOffset csnr fsnr ⌝ }
-{
-    4 * (16 * ((csnr as i32) - 15) + (fsnr as i32))
-}
-
-// The SNR offset of a csnroffst in its table.
-fn fine_of(csnr: u8, fsnr: u8) -> Coded
-    requires { ⌜ csnr ≤ 63 ⌝ }
-    ensures { λ r. ⌜ codedOf r ≡ fineOf csnr fsnr ⌝ }
-{
-    match fsnr {
-        0..=15 => {
-            let n = snr_offset(csnr, fsnr);
-            Coded::Value(n)
-        }
-        _ => Coded::Past,
-    }
-}
-
-// The SNR offset, or that a code is past its table.
-fn snr_of(csnr: u8, fsnr: u8) -> Coded
-    ensures { λ r. ⌜ codedOf r ≡ snrOf csnr fsnr ⌝ }
-{
-    match csnr {
-        0..=63 => fine_of(csnr, fsnr),
-        _ => Coded::Past,
-    }
 }
 
 // The decays and gains of a channel.
@@ -221,19 +73,19 @@ enum Curved {
 fn curve_of(codes: Codes) -> Curved
     ensures { λ r. ⌜ curvedOf r ≡ curveOf codes ⌝ }
 {
-    let x = slow_decay(codes.sdcycod);
+    let x = tables::slow_decay(codes.sdcycod);
     let Coded::Value(sd) = x else {
         return Curved::Past;
     };
-    let y = fast_decay(codes.fdcycod);
+    let y = tables::fast_decay(codes.fdcycod);
     let Coded::Value(fd) = y else {
         return Curved::Past;
     };
-    let z = slow_gain(codes.sgaincod);
+    let z = tables::slow_gain(codes.sgaincod);
     let Coded::Value(sg) = z else {
         return Curved::Past;
     };
-    let w = fast_gain(codes.fgaincod);
+    let w = tables::fast_gain(codes.fgaincod);
     let Coded::Value(fg) = w else {
         return Curved::Past;
     };
@@ -265,15 +117,15 @@ fn levels_of(codes: Codes) -> Leveled
     ensures { λ r. ⌜ leveledOf r ≡ levelsOf codes ⌝ }
 {
     let fscod = codes.fscod;
-    let x = knee_of(codes.dbpbcod);
+    let x = tables::knee_of(codes.dbpbcod);
     let Coded::Value(knee) = x else {
         return Leveled::Past;
     };
-    let y = floor_of(codes.floorcod);
+    let y = tables::floor_of(codes.floorcod);
     let Coded::Value(floor) = y else {
         return Leveled::Past;
     };
-    let z = snr_of(codes.csnroffst, codes.fsnroffst);
+    let z = tables::snr_of(codes.csnroffst, codes.fsnroffst);
     let Coded::Value(snr) = z else {
         return Leveled::Past;
     };
@@ -308,11 +160,11 @@ enum Begun {
 fn leaks_of(f: u8, s: u8) -> Begun
     ensures { λ r. ⌜ begunOf r ≡ leaksOf f s ⌝ }
 {
-    let x = leak_of(f);
+    let x = tables::leak_of(f);
     let Coded::Value(fast) = x else {
         return Begun::Past;
     };
-    let y = leak_of(s);
+    let y = tables::leak_of(s);
     let Coded::Value(slow) = y else {
         return Begun::Past;
     };
@@ -363,86 +215,6 @@ fn sooner(a: usize, b: usize) -> usize
     ensures { λ r. ⌜ r ≡ min a b ⌝ }
 {
     if a < b { a } else { b }
-}
-
-// The bands' first bins, and the end of the last band.
-const STARTS: [usize; 51] = [
-    0,
-    1,
-    2,
-    3,
-    4,
-    5,
-    6,
-    7,
-    8,
-    9,
-    10,
-    11,
-    12,
-    13,
-    14,
-    15,
-    16,
-    17,
-    18,
-    19,
-    20,
-    21,
-    22,
-    23,
-    24,
-    25,
-    26,
-    27,
-    28,
-    31,
-    34,
-    37,
-    40,
-    43,
-    46,
-    49,
-    55,
-    61,
-    67,
-    73,
-    79,
-    85,
-    97,
-    109,
-    121,
-    133,
-    157,
-    181,
-    205,
-    229,
-    253,
-];
-
-// The first bin of a band; of band 50, the end of the last.
-fn start_of(k: Band) -> Bin
-    requires { ⌜ k .0 ≤ 50 ⌝ }
-    ensures { λ r. ⌜ r .0 ≡ bandStart (k .0) ⌝ }
-{
-    let n = k.0;
-    let b = STARTS[n];
-    Bin(b)
-}
-
-// The band of a bin.
-fn band_of(b: Bin) -> Band
-    requires { ⌜ b .0 < 253 ⌝ }
-    ensures { λ r. ⌜ r .0 ≡ bandOf (b .0) ⌝ }
-{
-    let n = b.0;
-    match n {
-        0..=27 => Band(n),
-        28..=48 => Band(28 + (n - 28) / 3),
-        49..=84 => Band(35 + (n - 49) / 6),
-        85..=132 => Band(41 + (n - 85) / 12),
-        _ => Band(45 + (n - 133) / 24),
-    }
 }
 
 // 6.2.2.2: the power of a bin.
@@ -512,8 +284,8 @@ fn band_power(psd: &[i32; 256], latab: &[u8], start: Bin, end: Bin, k: Band) -> 
     let n = k.0;
     let s = start.0;
     let e = end.0;
-    let a = start_of(k);
-    let b = start_of(Band(n + 1));
+    let a = tables::start_of(k);
+    let b = tables::start_of(Band(n + 1));
     let lo = later(a.0, s);
     let hi = sooner(b.0, e);
     band_sum(psd, latab, lo, hi)
@@ -526,8 +298,8 @@ fn band_powers(psd: &[i32; 256], latab: &[u8], start: Bin, end: Bin) -> [i32; 50
 {
     let mut out: [i32; 50] = [0; 50];
     let e = end.0;
-    let first = band_of(start);
-    let last = band_of(Bin(e - 1));
+    let first = tables::band_of(start);
+    let last = tables::band_of(Bin(e - 1));
     let stop = last.0 + 1;
     let mut k = first.0;
     while k < stop {
@@ -892,12 +664,20 @@ fn mask_step(mask: i32, snr: i32, floor: i32) -> i32
     (n as i32) + floor
 }
 
-// The place in the table of pointers: a 32nd of the power above the mask, rounded down, and held between 0 and 63.
+// A 32nd of the power above the mask, rounded toward minus infinity.
+fn above(psd: i32, m: i32) -> i32
+    requires { ⌜ Power psd × Cut m ⌝ }
+    ensures { λ r. ⌜ r ≡ shrZ (psd -ℤ m) 32 ⌝ }
+{
+    (psd - m) >> 5
+}
+
+// The place in the table of pointers: what is above the mask, held between 0 and 63.
 fn address(psd: i32, m: i32) -> usize
     requires { ⌜ Power psd × Cut m ⌝ }
     ensures { λ r. ⌜ (r ≡ addressOf psd m) × (r < 64) ⌝ }
 {
-    let d = (psd - m) >> 5;
+    let d = above(psd, m);
     if d < 0 {
         return 0;
     }
@@ -907,7 +687,20 @@ fn address(psd: i32, m: i32) -> usize
     d as usize
 }
 
-// The pointers of the bins from start to end, and 0 elsewhere.
+// Puts the pointers of the bins from lo to hi, which share the mask m.
+fn point(out: &mut [u8; 256], baptab: &[u8; 64], psd: &[i32; 256], m: i32, lo: usize, hi: usize)
+    requires { ⌜ Powers (now psd) × Cut m × (lo ≤ hi) × (hi ≤ 256) × (length (now out) ≡ 256) ⌝ }
+    ensures { λ _. ⌜ now (out .exit) ≡ pointed (now (baptab .entry)) (λ j. getD (now (psd .entry)) j (pos 0)) m lo hi (now (out .entry)) ⌝ }
+{
+    let mut i = lo;
+    while i < hi {
+        let at = address(psd[i], m);
+        out[i] = baptab[at];
+        i += 1;
+    }
+}
+
+// The pointers of the bins from start to end, and 0 elsewhere: band by band, since a band's bins share a mask.
 fn baps(
     baptab: &[u8; 64],
     psd: &[i32; 256],
@@ -921,15 +714,17 @@ fn baps(
     ensures { λ r. ⌜ r ≡ bapsOf (now (baptab .entry)) (λ j. getD (now (psd .entry)) j (pos 0)) (λ j. getD (now (mask .entry)) j (pos 0)) snr floor (start .0) (end .0) ⌝ }
 {
     let mut out: [u8; 256] = [0; 256];
+    let first = tables::band_of(start);
+    let mut k = first.0;
     let mut i = start.0;
     let e = end.0;
     while i < e {
-        let k = band_of(Bin(i));
-        let n = k.0;
-        let m = mask_step(mask[n], snr, floor);
-        let at = address(psd[i], m);
-        out[i] = baptab[at];
-        i += 1;
+        let next = tables::start_of(Band(k + 1));
+        let hi = sooner(next.0, e);
+        let m = mask_step(mask[k], snr, floor);
+        point(&mut out, baptab, psd, m, i, hi);
+        i = hi;
+        k += 1;
     }
     out
 }
@@ -950,8 +745,8 @@ fn channel_masks(
     ensures { λ r. ⌜ (r ≡ masksFrom (now (psd .entry)) (now (latab .entry)) (now (hearing .entry)) (start .0) (end .0) c s0 knee fscod) × Masks r ⌝ }
 {
     let e = end.0;
-    let first = band_of(start);
-    let last = band_of(Bin(e - 1));
+    let first = tables::band_of(start);
+    let last = tables::band_of(Bin(e - 1));
     let stop = Band(last.0 + 1);
     let power = band_powers(psd, latab, start, end);
     let excite = excitation(c, first, stop, &power, s0);
@@ -989,240 +784,6 @@ fn pointers_of(
     let m = deltas(mask, &offs, &lens, &bas, count);
     let masked = m.mask;
     baps(baptab, &psd, &masked, snr, floor, start, end)
-}
-
-// TS 6.2.2.7, bap by address.
-const BAP: [u8; 64] = [
-    0,
-    1,
-    1,
-    1,
-    1,
-    1,
-    2,
-    2,
-    3,
-    3,
-    3,
-    4,
-    4,
-    5,
-    5,
-    6,
-    6,
-    6,
-    6,
-    7,
-    7,
-    7,
-    7,
-    8,
-    8,
-    8,
-    8,
-    9,
-    9,
-    9,
-    9,
-    10,
-    10,
-    10,
-    10,
-    11,
-    11,
-    11,
-    11,
-    12,
-    12,
-    12,
-    12,
-    13,
-    13,
-    13,
-    13,
-    14,
-    14,
-    14,
-    14,
-    14,
-    14,
-    14,
-    14,
-    15,
-    15,
-    15,
-    15,
-    15,
-    15,
-    15,
-    15,
-    15,
-];
-
-// TS E.2.4.3.1, hebap by address.
-const HEBAP: [u8; 64] = [
-    0,
-    1,
-    2,
-    3,
-    4,
-    5,
-    6,
-    7,
-    8,
-    8,
-    8,
-    8,
-    9,
-    9,
-    9,
-    10,
-    10,
-    10,
-    10,
-    11,
-    11,
-    11,
-    11,
-    12,
-    12,
-    12,
-    12,
-    13,
-    13,
-    13,
-    13,
-    14,
-    14,
-    14,
-    14,
-    15,
-    15,
-    15,
-    15,
-    16,
-    16,
-    16,
-    16,
-    17,
-    17,
-    17,
-    17,
-    18,
-    18,
-    18,
-    18,
-    18,
-    18,
-    18,
-    18,
-    19,
-    19,
-    19,
-    19,
-    19,
-    19,
-    19,
-    19,
-    19,
-];
-
-// The pointers by address.
-fn table_of(which: Pointers) -> [u8; 64]
-    ensures { λ r. ⌜ r ≡ tableOf which ⌝ }
-{
-    match which {
-        Pointers::Bap => BAP,
-        Pointers::Hebap => HEBAP,
-    }
-}
-
-// Whether the numbers so far were at most the top, and this one is.
-fn still(ok: bool, e: usize, top: usize) -> bool
-    ensures { λ r. ⌜ r ≡ (ok && leb e top) ⌝ }
-{
-    if ok {
-        return e <= top;
-    }
-    false
-}
-
-// Whether the numbers from start to end are at most the top.
-fn all_upto(s: &[u8], start: usize, end: usize, top: usize) -> bool
-    requires { do ⌜ (start ≤ end) × (end ≤ (← ⟦s.len()⟧)) ⌝ }
-    ensures { λ r. ⌜ r ≡ upto top (now (s .entry)) start (end - start) ⌝ }
-{
-    let mut i = start;
-    let mut ok = true;
-    while i < end {
-        ok = still(ok, s[i] as usize, top);
-        i += 1;
-    }
-    ok
-}
-
-// Whether a lent LOG_ADD is fit.
-fn log_add_fits(s: &[u8]) -> bool
-    ensures { λ r. ⌜ r ≡ lentFits 256 64 (now (s .entry)) ⌝ }
-{
-    if s.len() != 256 {
-        return false;
-    }
-    all_upto(s, 0, 256, 64)
-}
-
-// Whether the 150 numbers of a lent HEARING are at most 4095.
-fn heard_upto(s: &[u16]) -> bool
-    requires { do ⌜ (← ⟦s.len()⟧) ≡ 150 ⌝ }
-    ensures { λ r. ⌜ r ≡ upto 4095 (now (s .entry)) 0 150 ⌝ }
-{
-    let mut i: usize = 0;
-    let mut ok = true;
-    while i < 150 {
-        ok = still(ok, s[i] as usize, 4095);
-        i += 1;
-    }
-    ok
-}
-
-// Whether a lent HEARING is fit.
-fn hearing_fits(s: &[u16]) -> bool
-    ensures { λ r. ⌜ r ≡ lentFits 150 4095 (now (s .entry)) ⌝ }
-{
-    if s.len() != 150 {
-        return false;
-    }
-    heard_upto(s)
-}
-
-// Whether both lent tables are fit.
-fn tables_fit(hearing: &[u16], latab: &[u8]) -> bool
-    ensures { λ r. ⌜ r ≡ tablesFit (now (hearing .entry)) (now (latab .entry)) ⌝ }
-{
-    if hearing_fits(hearing) {
-        return log_add_fits(latab);
-    }
-    false
-}
-
-// Whether there are at most 8 segments, and none has a code past its table.
-fn delta_fits(d: Delta) -> bool
-    ensures { λ r. ⌜ r ≡ deltaFits d ⌝ }
-{
-    if d.count > 8 {
-        return false;
-    }
-    let n = d.count as usize;
-    let offs = d.offset;
-    if !all_upto(&offs, 0, n, 31) {
-        return false;
-    }
-    let lens = d.len;
-    if !all_upto(&lens, 0, n, 15) {
-        return false;
-    }
-    let bas = d.ba;
-    all_upto(&bas, 0, n, 7)
 }
 
 // A refusal: zeros.
@@ -1265,10 +826,10 @@ fn channel(
     if e > 253 {
         return refused(Why::BadArgument);
     }
-    if !all_upto(exp, a, e, 24) {
+    if !tables::all_upto(exp, a, e, 24) {
         return refused(Why::ExponentOutside);
     }
-    let baptab = table_of(which);
+    let baptab = tables::table_of(which);
     let bap = pointers_of(exp, latab, hearing, &baptab, start, end, c, s0, v, d);
     Allocated {
         answer: Ended::Done,
@@ -1291,7 +852,7 @@ pub fn allocate(
 ) -> Allocated
     ensures { λ r. ⌜ allocatedOf r ≡ allocateOf (now (exp .entry)) (start .0) (end .0) codes leak delta which (now (hearing .entry)) (now («log_add» .entry)) ⌝ }
 {
-    if !tables_fit(hearing, log_add) {
+    if !tables::tables_fit(hearing, log_add) {
         return refused(Why::BadTables);
     }
     let x = curve_of(codes);
@@ -1306,7 +867,7 @@ pub fn allocate(
     let Begun::Of(s) = z else {
         return refused(Why::CodePastTable);
     };
-    if !delta_fits(delta) {
+    if !tables::delta_fits(delta) {
         return refused(Why::CodePastTable);
     }
     channel(exp, start, end, c, v, s, delta, which, hearing, log_add)

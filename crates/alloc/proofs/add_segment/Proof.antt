@@ -13,7 +13,7 @@ use native.Mathlib.Nat.{le-refl}
 use mir.Facts.{toZ-ofZ}
 use Rattle.alloc.specs.Table.{table, blend}
 use Rattle.alloc.specs.Clauses.{addSegment}
-use Rattle.alloc.proofs.Signed.{within-fits, within-add}
+use Rattle.tables.proofs.Signed.{within-fits, within-add}
 use Rattle.alloc.proofs.TableLaws.{table-of, getD-table, blend-after}
 use Rattle.alloc.proofs.Turns.{segment-turn, segment-clip}
 use Rattle.alloc.proofs.add_segment.Statement.{statement}

@@ -7,9 +7,9 @@ use borrow.Author.Needs.{needs}
 use mir.Syntax.{w32}
 use mir.Val.{SFits}
 use mir.Facts.{toZ-ofZ}
-use Rattle.alloc.specs.Bands.{bandStart}
+use Rattle.tables.specs.Bands.{bandStart}
 use Rattle.alloc.specs.Clauses.{bandPower}
-use Rattle.alloc.proofs.BandLaws.{in-band}
+use Rattle.tables.proofs.BandLaws.{in-band}
 use Rattle.alloc.proofs.band_power.Statement.{statement}
 use Rattle.alloc.proofs.band_power.Tie as tie
 

@@ -10,10 +10,10 @@ use mir.Syntax.{w32}
 use mir.Val.{SFits}
 use mir.Facts.{toZ-ofZ}
 use Rattle.alloc.specs.Table.{from, table, inside}
-use Rattle.alloc.specs.Bands.{bandOf}
+use Rattle.tables.specs.Bands.{bandOf}
 use Rattle.alloc.specs.Clauses.{bandPower, bandPowers}
 use Rattle.alloc.proofs.TableLaws.{fill-start, fill-turn}
-use Rattle.alloc.proofs.BandLaws.{band-below, band-mono}
+use Rattle.tables.proofs.BandLaws.{band-below, band-mono}
 use Rattle.alloc.proofs.band_powers.Statement.{statement}
 use Rattle.alloc.proofs.band_powers.Tie as tie
 
@@ -23,11 +23,6 @@ Inv-loop psd latab start end out₀ e stop k₀ out k =
 
 abbrev μ-loop : tie.MeasureT-loop
 μ-loop psd latab start end out₀ e stop k₀ out k = bandOf (end .0 - 1) + 1 - k
-
-band-of-requires : tie.Need-band-of-requires Inv-loop μ-loop
-band-of-requires c κs =
-    let h : c .before .args .start .0 < 253 = omega arith in
-    h
 
 add-stop : tie.Need-add-stop Inv-loop μ-loop
 add-stop c =
@@ -97,9 +92,9 @@ band-powers-spec =
     (tie.spec
     Inv-loop
     μ-loop
-    band-of-requires
+    (λ c κs. tt)
     (λ c. omega arith)
-    (λ c κs. omega arith)
+    (λ c κs. tt)
     add-stop
     loop-holds
     band-power-requires

@@ -9,7 +9,7 @@ use mir.Syntax.{w32}
 use mir.Val.{SFits, toZ}
 use mir.Facts.{toZ-ofZ}
 use Rattle.alloc.specs.Clauses.{bandSum, logadd}
-use Rattle.alloc.proofs.Signed.{same, within-fits}
+use Rattle.tables.proofs.Signed.{same, within-fits}
 use Rattle.alloc.proofs.RangeLaws.{bandSum-within}
 use Rattle.alloc.proofs.Turns.{bandSum-next, bandSum-first}
 use Rattle.alloc.proofs.band_sum.Statement.{statement}

@@ -1,122 +1,155 @@
--- `alloc::baps` meets its contract: each turn fills one bin's place.
+-- `alloc::baps` meets its contract: each turn fills the places of one band's bins.
 -- Assumes nothing.
-use Prim.Native.Nat.{ℕ, _<_, _≤_, _-_}
+use Prim.Native.Nat.{ℕ, _<_, _≤_, _+_, _-_, min}
 use mathlib.Core.Path.{_≡_, ap, sym, subst, _∙_}
 use mathlib.Core.List.{List}
 use native.Mathlib.Omega.{arith}
-use lib.ListN.{getD, set}
-use lib.IntN.{pos}
+use lib.ListN.{length, getD}
+use lib.IntN.{ℤ, pos}
 use mir.Syntax.{w32}
 use mir.Val.{toZ, ofZ}
 use mir.Facts.{toZ-ofZ}
-use Rattle.alloc.specs.Numbers.{Within}
+use Rattle.tables.specs.Numbers.{Within}
+use Rattle.tables.specs.Bands.{bandStart, bandOf}
+use Rattle.tables.proofs.Signed.{within-fits, widen}
+use Rattle.tables.proofs.BandLaws.{band-below, band-low, band-high, band-is, start-next, start-below}
 use Rattle.alloc.specs.Table.{from}
-use Rattle.alloc.specs.Bands.{bandOf}
-use Rattle.alloc.specs.Clauses.{bapsOf, bapAt, maskStep, address}
-use Rattle.alloc.proofs.Signed.{within-fits, widen}
+use Rattle.alloc.specs.Clauses.{bapsOf, bapAt, maskStep, pointed}
 use Rattle.alloc.proofs.TableLaws.{fill-start}
-use Rattle.alloc.proofs.BandLaws.{band-below}
 use Rattle.alloc.proofs.RangeLaws.{maskStep-within}
-use Rattle.alloc.proofs.Turns.{baps-turn}
+use Rattle.alloc.proofs.Turns.{baps-band, baps-length}
 use Rattle.alloc.proofs.baps.Statement.{statement}
 use Rattle.alloc.proofs.baps.Tie as tie
 
+-- k is the band of bin i, where i is not the end
 abbrev Inv-loop : tie.InvT-loop
-Inv-loop baptab psd mask snr floor out₀ i₀ e out i =
-    (out ≡ bapsOf baptab (λ (j : ℕ). getD psd j (pos 0)) (λ (j : ℕ). getD mask j (pos 0)) (toZ w32 snr) (toZ w32 floor) i₀ i) × (i₀ ≤ i) × (i ≤ e)
+Inv-loop baptab psd mask snr floor out₀ k₀ i₀ e out k i =
+    (out ≡ bapsOf baptab (λ (j : ℕ). getD psd j (pos 0)) (λ (j : ℕ). getD mask j (pos 0)) (toZ w32 snr) (toZ w32 floor) i₀ i)
+    × (i₀ ≤ i) × (i ≤ e) × (i < e → bandOf i ≡ k)
 
 abbrev μ-loop : tie.MeasureT-loop
-μ-loop baptab psd mask snr floor out₀ i₀ e out i = e - i
+μ-loop baptab psd mask snr floor out₀ k₀ i₀ e out k i = e - i
 
 loop-holds : tie.Need-loop-holds Inv-loop μ-loop
 unfolding bapsOf from
 loop-holds c =
-    let a = c .args in (
+    let a = c .before .args in (
       fill-start 256 (a .start .0) 0 (bapAt (a .baptab .now) (λ (j : ℕ). getD (a .psd .now) j (pos 0)) (λ (j : ℕ). getD (a .mask .now) j (pos 0)) (toZ w32 (ofZ w32 (a .snr))) (toZ w32 (ofZ w32 (a .floor)))),
       omega arith,
       omega arith,
+      λ h. sym (c .band-of .ensures),
     )
 
-band : (c : tie.After-band-of Inv-loop μ-loop) → (c .band-of .result .0 ≡ bandOf (c .before .before .loop .i)) × (c .band-of .result .0 < 50)
-band c = (c .band-of .ensures, omega (arith, band-below (c .before .before .loop .i) (omega arith), c .band-of .ensures))
+-- the band of the turn
+module _ (c : tie.In-loop Inv-loop μ-loop) where
+  band : bandOf (c .before .loop .i) ≡ c .before .loop .k
+  band = c .before .loop .inv .3 (omega arith)
 
-mul-mask-step : tie.Need-mul-mask-step Inv-loop μ-loop
-mul-mask-step c = omega (arith, band c)
+  small : c .before .loop .k < 50
+  small = omega (arith, band, band-below (c .before .loop .i) (omega arith))
 
-element-copy-out-mask-step : tie.Need-element-copy-out-mask-step Inv-loop μ-loop
-element-copy-out-mask-step c = omega (arith, band c)
+  begins : bandStart (c .before .loop .k) ≤ c .before .loop .i
+  begins = subst (λ (j : ℕ). bandStart j ≤ c .before .loop .i) band (band-low (c .before .loop .i) (omega arith))
+
+  ends : c .before .loop .i < bandStart (c .before .loop .k + 1)
+  ends = subst (λ (j : ℕ). c .before .loop .i < bandStart (j + 1)) band (band-high (c .before .loop .i) (omega arith))
+
+-- where the turn ends
+stop : (c : tie.After-sooner Inv-loop μ-loop)
+    → let l = c .before .before .before in c .sooner .result ≡ min (bandStart (l .loop .k + 1)) (l .before .before .args .end .0)
+stop c = c .sooner .ensures ∙ ap (λ (j : ℕ). min j (c .before .before .before .before .before .args .end .0)) (c .before .start-of .ensures)
 
 mask-step-requires : tie.Need-mask-step-requires Inv-loop μ-loop
 mask-step-requires c κs =
-    let b = c .before in
-    let s = b .before .before .before in
-    let f = within-fits 1048576 1048576 (s .pre .1 .at (b .band-of .result .0)) tt tt in
+    let l = c .before .before .before .before in
+    let s = l .before .before in
+    let f = within-fits 1048576 1048576 (s .pre .1 .at (l .loop .k)) tt tt in
     let fs = s .fits .snr in
     let ff = s .fits .floor in
-    simp toZ-ofZ (s .pre .1 .at (b .band-of .result .0), s .pre .2, s .pre .3)
+    simp toZ-ofZ (s .pre .1 .at (l .loop .k), s .pre .2, s .pre .3)
 
--- the mask of the bin's band, cut
+-- the mask of the band, cut
 mask-is : (c : tie.After-mask-step Inv-loop μ-loop)
-    → let s = c .before .before .before .before .before in let i = c .before .before .before .before .loop .i in c .mask-step .result
-    ≡ maskStep (getD (s .args .mask .now) (bandOf i) (pos 0)) (s .args .snr) (s .args .floor)
+    → let l = c .before .before .before .before .before in let s = l .before .before in c .mask-step .result
+    ≡ maskStep (getD (s .args .mask .now) (l .loop .k) (pos 0)) (s .args .snr) (s .args .floor)
 mask-is c =
-    let b = c .before .before in
-    let s = b .before .before .before in
-    let f = within-fits 1048576 1048576 (s .pre .1 .at (b .band-of .result .0)) tt tt in
+    let l = c .before .before .before .before .before in
+    let s = l .before .before in
+    let f = within-fits 1048576 1048576 (s .pre .1 .at (l .loop .k)) tt tt in
     let fs = s .fits .snr in
     let ff = s .fits .floor in
     simp toZ-ofZ at (c .mask-step .ensures)
-    ∙ ap (λ (j : ℕ). maskStep (getD (s .args .mask .now) j (pos 0)) (s .args .snr) (s .args .floor)) (b .band-of .ensures)
 
 mask-within : (c : tie.After-mask-step Inv-loop μ-loop) → Within 2048 9216 (c .mask-step .result)
 mask-within c =
-    let s = c .before .before .before .before .before in
-    let i = c .before .before .before .before .loop .i in
+    let l = c .before .before .before .before .before in
+    let s = l .before .before in
     subst (Within 2048 9216) (sym (mask-is c))
-    (maskStep-within (getD (s .args .mask .now) (bandOf i) (pos 0)) (s .args .snr) (s .args .floor) (s .pre .3))
+    (maskStep-within (getD (s .args .mask .now) (l .loop .k) (pos 0)) (s .args .snr) (s .args .floor) (s .pre .3))
 
-address-requires : tie.Need-address-requires Inv-loop μ-loop
-address-requires c κs =
+point-requires : tie.Need-point-requires Inv-loop μ-loop
+point-requires c κs =
     let m = c .before in
-    let s = m .before .before .before .before .before in
-    let i = m .before .before .before .before .loop .i in
+    let o = m .before .before in
+    let t = o .before .before in
+    let s = t .before .before .before in
     let w = mask-within m in
     let f = within-fits 2048 9216 w tt tt in
-    let g = within-fits 29568 3072 (s .pre .0 .at (m .before .before .before .before .loop .i)) tt tt in
-    simp toZ-ofZ (s .pre .0 .at (m .before .before .before .before .loop .i), widen 2048 16384 w (omega arith) (omega arith))
+    simp toZ-ofZ (
+      s .pre .0,
+      widen 2048 16384 w (omega arith) (omega arith),
+      omega (arith, stop o, ends t),
+      omega (arith, stop o, s .pre),
+      ap length (t .before .loop .inv .0) ∙ baps-length _ _ _ _ _ _ _,
+    )
 
-element-copy-out-out : tie.Need-element-copy-out-out Inv-loop μ-loop
-element-copy-out-out c = c .address .ensures .1
+-- all bins of the turn have the band's mask
+shared : (c : tie.After-mask-step Inv-loop μ-loop)
+    → let o = c .before .before in let l = o .before .before .before in let s = l .before .before in (j : ℕ) → l .loop .i ≤ j → j < o .sooner .result
+    → c .mask-step .result ≡ maskStep (getD (s .args .mask .now) (bandOf j) (pos 0)) (s .args .snr) (s .args .floor)
+shared c j p q =
+    let o = c .before .before in
+    let t = o .before .before in
+    let l = t .before in
+    let s = l .before .before in
+    mask-is c
+    ∙ ap (λ (k : ℕ). maskStep (getD (s .args .mask .now) k (pos 0)) (s .args .snr) (s .args .floor))
+    (sym (band-is j (l .loop .k) (small t) (omega (arith, begins t)) (omega (arith, stop o))))
 
-at-is : (c : tie.After-address Inv-loop μ-loop)
-    → let s = c .before .before .before .before .before .before .before in let i = c .before .before .before .before .before .before .loop .i in c .address .result
-    ≡ address (getD (s .args .psd .now) i (pos 0)) (maskStep (getD (s .args .mask .now) (bandOf i) (pos 0)) (s .args .snr) (s .args .floor))
-at-is c =
-    let m = c .before .before in
-    let s = m .before .before .before .before .before in
-    let i = m .before .before .before .before .loop .i in
-    let f = within-fits 2048 9216 (mask-within m) tt tt in
-    let g = within-fits 29568 3072 (s .pre .0 .at (m .before .before .before .before .loop .i)) tt tt in
-    simp toZ-ofZ at (c .address .ensures .0) ∙ ap (address (getD (s .args .psd .now) i (pos 0))) (mask-is m)
+-- where the turn stops short of the end, the next band begins
+next : (c : tie.After-sooner Inv-loop μ-loop)
+    → let l = c .before .before .before in c .sooner .result < l .before .before .args .end .0 → bandOf (c .sooner .result) ≡ l .loop .k + 1
+next c h =
+    let t = c .before .before in
+    let l = t .before in
+    let k = l .loop .k in
+    let e : c .sooner .result ≡ bandStart (k + 1) = omega (arith, stop c) in
+    let n = start-below (k + 1) (omega (arith, l .before .before .pre)) in
+    band-is (c .sooner .result) (k + 1) n (omega arith) (omega (arith, start-next (k + 1) n))
 
 loop-again : tie.Need-loop-again Inv-loop μ-loop
-unfolding bapAt
 loop-again c =
-    let a = c .before in
-    let l = a .before .before .before .before .before .before in
-    let s = l .before in
+    let m = c .before .before in
+    let o = m .before .before in
+    let t = o .before .before in
+    let l = t .before in
+    let s = l .before .before in
+    let a = s .args in
     let fs = s .fits .snr in
     let ff = s .fits .floor in
-    let i = simp toZ-ofZ at (l .loop .inv .0) in (
-      simp toZ-ofZ (ap (λ (x : List ℕ). set x (l .loop .i) (getD (s .args .baptab .now) (a .address .result) 0)) i ∙ baps-turn (s .args .baptab .now) (λ (j : ℕ). getD (s .args .psd .now) j (pos 0)) (λ (j : ℕ). getD (s .args .mask .now) j (pos 0)) (s .args .snr) (s .args .floor) (s .args .start .0) (l .loop .i) (getD (s .args .baptab .now) (a .address .result) 0) (omega arith) (ap (λ (j : ℕ). getD (s .args .baptab .now) j 0) (at-is a))),
-      omega arith,
-      omega arith,
+    let fm = within-fits 2048 9216 (mask-within m) tt tt in
+    let i = simp toZ-ofZ at (l .loop .inv .0) in
+    let p = simp toZ-ofZ at (c .point .ensures) in (
+      simp toZ-ofZ (p ∙ ap (pointed (a .baptab .now) (λ (j : ℕ). getD (a .psd .now) j (pos 0)) (m .mask-step .result) (l .loop .i) (o .sooner .result)) i ∙ baps-band (a .baptab .now) (λ (j : ℕ). getD (a .psd .now) j (pos 0)) (λ (j : ℕ). getD (a .mask .now) j (pos 0)) (a .snr) (a .floor) (m .mask-step .result) (a .start .0) (l .loop .i) (o .sooner .result) (omega arith) (omega (arith, stop o, ends t)) (shared m)),
+      omega (arith, stop o, ends t),
+      omega (arith, stop o),
+      next o,
     )
 
 returns : tie.Need-returns Inv-loop μ-loop
 returns c =
     let l = c .before in
-    let s = l .before in
+    let s = l .before .before in
     let fs = s .fits .snr in
     let ff = s .fits .floor in
     let a = s .args in
@@ -131,17 +164,16 @@ baps-spec =
     (tie.spec
     Inv-loop
     μ-loop
+    (λ c κs. tt)
     loop-holds
-    (λ c κs. omega arith)
-    mul-mask-step
-    element-copy-out-mask-step
+    (λ c. omega (arith, small c))
+    (λ c κs. tt)
+    (λ c κs. tt)
+    (λ c. omega (arith, small (c .before .before)))
+    (λ c. omega (arith, small (c .before .before)))
     mask-step-requires
-    (λ c. omega arith)
-    (λ c. omega arith)
-    address-requires
-    element-copy-out-out
-    (λ c. omega arith)
-    (λ c. omega arith)
-    (λ c. omega arith)
+    point-requires
+    (λ c. omega (arith, small (c .before .before .before .before .before .before)))
+    (λ c. omega (arith, stop (c .before .before .before .before), ends (c .before .before .before .before .before .before)))
     loop-again
     returns)

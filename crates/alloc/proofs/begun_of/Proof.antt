@@ -2,7 +2,7 @@
 -- Assumes nothing.
 use mathlib.Core.Path.{sym, _∙_, ap}
 use borrow.Author.Needs.{needs}
-use Rattle.alloc.specs.Codes.{startOf}
+use Rattle.alloc.specs.Params.{startOf}
 use Rattle.alloc.proofs.begun_of.Statement.{statement}
 use Rattle.alloc.proofs.begun_of.Tie as tie
 

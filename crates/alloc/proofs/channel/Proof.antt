@@ -8,7 +8,8 @@ use borrow.Author.Needs.{needs}
 use borrow.Author.Tests.{not-true, not-false}
 use denote.Ref.{now}
 use Rattle.refusal.specs.Refusals.{taken}
-use Rattle.alloc.specs.Answers.{upto, filled}
+use Rattle.tables.specs.Fits.{upto}
+use Rattle.alloc.specs.Answers.{filled}
 use Rattle.alloc.specs.Channel.{pointersOf}
 use Rattle.alloc.proofs.Cases.{channel-empty, channel-6, channel-8, channel-done}
 use Rattle.alloc.proofs.channel.Statement.{statement}

@@ -7,13 +7,13 @@ use native.Mathlib.Omega.{arith}
 use borrow.Author.Needs.{needs}
 use lib.IntN.{ℤ}
 use mir.Facts.{toZ-ofZ}
-use Rattle.alloc.specs.Numbers.{Each}
-use Rattle.alloc.specs.Bands.{bandOf}
+use Rattle.tables.specs.Numbers.{Each}
+use Rattle.tables.specs.Bands.{bandOf}
 use Rattle.alloc.specs.Clauses.{bandPowers, masksOf}
 use Rattle.alloc.specs.Excite.{exciteOf}
 use Rattle.alloc.specs.Channel.{of, stopOf, masksFrom}
-use Rattle.alloc.proofs.Signed.{widen}
-use Rattle.alloc.proofs.BandLaws.{band-below, band-mono}
+use Rattle.tables.proofs.Signed.{widen}
+use Rattle.tables.proofs.BandLaws.{band-below, band-mono}
 use Rattle.alloc.proofs.RangeLaws.{bandPowers-each, excite-each, masks-each}
 use Rattle.alloc.proofs.channel_masks.Statement.{statement}
 use Rattle.alloc.proofs.channel_masks.Tie as tie

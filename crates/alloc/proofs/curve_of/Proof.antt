@@ -6,9 +6,10 @@ use mir.Syntax.{w32}
 use mir.Val.{SFits}
 use mir.Facts.{toZ-ofZ}
 use Rattle.refusal.specs.Refusals.{taken}
-use Rattle.alloc.specs.Codes.{codedOf, fastGain, curveOf}
-use Rattle.alloc.proofs.Signed.{sfits}
-use Rattle.alloc.specs.Codes.{codeAt, slowDecay, fastDecay, slowGain}
+use Rattle.tables.specs.Codes.{codedOf, fastGain}
+use Rattle.alloc.specs.Params.{curveOf}
+use Rattle.tables.proofs.Signed.{sfits}
+use Rattle.tables.specs.Codes.{codeAt, slowDecay, fastDecay, slowGain}
 use Rattle.alloc.proofs.curve_of.Statement.{statement}
 use Rattle.alloc.proofs.curve_of.Tie as tie
 

@@ -6,9 +6,9 @@ use lib.IntN.{ℤ, _-ℤ_}
 use mir.Syntax.{w32}
 use mir.Val.{SFits}
 use mir.Facts.{toZ-ofZ}
-use Rattle.alloc.specs.Numbers.{Within}
+use Rattle.tables.specs.Numbers.{Within}
 use Rattle.alloc.specs.Excite.{decayed}
-use Rattle.alloc.proofs.Signed.{sfits, min-law}
+use Rattle.tables.proofs.Signed.{sfits, min-law}
 use Rattle.alloc.proofs.decay_to.Statement.{statement}
 use Rattle.alloc.proofs.decay_to.Tie as tie
 

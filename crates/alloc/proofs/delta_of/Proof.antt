@@ -10,7 +10,7 @@ use mir.Syntax.{w32}
 use mir.Val.{SFits}
 use mir.Facts.{toZ-ofZ, toZ-pos}
 use Rattle.alloc.specs.Clauses.{deltaOf}
-use Rattle.alloc.proofs.Signed.{sfits, min-law, mul-law, ext}
+use Rattle.tables.proofs.Signed.{sfits, min-law, mul-law, ext}
 use Rattle.alloc.proofs.delta_of.Statement.{statement}
 use Rattle.alloc.proofs.delta_of.Tie as tie
 

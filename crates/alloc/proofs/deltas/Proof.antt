@@ -4,7 +4,7 @@ use Prim.Native.Nat.{_<_, _≤_, _-_}
 use mathlib.Core.Path.{_≡_, ap, _∙_}
 use native.Mathlib.Omega.{arith}
 use Rattle.alloc.specs.Clauses.{deltasOf, segmentEnd}
-use Rattle.alloc.proofs.Signed.{widen}
+use Rattle.tables.proofs.Signed.{widen}
 use Rattle.alloc.proofs.RangeLaws.{deltas-each, segmentEnd-le}
 use Rattle.alloc.proofs.Turns.{deltas-next, deltas-zero, segmentEnd-next}
 use Rattle.alloc.proofs.deltas.Statement.{statement}

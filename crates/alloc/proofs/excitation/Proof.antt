@@ -11,7 +11,7 @@ use Rattle.alloc.specs.declared.Carried.{Carried}
 use Rattle.alloc.specs.Table.{from}
 use Rattle.alloc.specs.Excite.{step, leakAt, exciteAt, exciteOf}
 use Rattle.alloc.specs.Ranges.{Kept}
-use Rattle.alloc.proofs.Signed.{within-fits}
+use Rattle.tables.proofs.Signed.{within-fits}
 use Rattle.alloc.proofs.TableLaws.{fill-start, fill-turn}
 use Rattle.alloc.proofs.RangeLaws.{leakAt-kept}
 use Rattle.alloc.proofs.Turns.{leakAt-next, leakAt-first}

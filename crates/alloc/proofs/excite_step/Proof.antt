@@ -8,7 +8,7 @@ use borrow.Author.Tests.{ltb-true}
 use lib.Dec.{ltb, eqb}
 use mir.Facts.{toZ-ofZ}
 use Rattle.alloc.specs.Excite.{step}
-use Rattle.alloc.proofs.Signed.{within-fits, widen}
+use Rattle.tables.proofs.Signed.{within-fits, widen}
 use Rattle.alloc.proofs.excite_step.Statement.{statement}
 use Rattle.alloc.proofs.excite_step.Tie as tie
 

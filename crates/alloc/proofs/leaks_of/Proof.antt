@@ -6,8 +6,9 @@ use mir.Syntax.{w32}
 use mir.Val.{SFits}
 use mir.Facts.{toZ-ofZ}
 use Rattle.refusal.specs.Refusals.{taken}
-use Rattle.alloc.specs.Codes.{codedOf, leakOf, leaksOf}
-use Rattle.alloc.proofs.Signed.{sfits}
+use Rattle.tables.specs.Codes.{codedOf, leakOf}
+use Rattle.alloc.specs.Params.{leaksOf}
+use Rattle.tables.proofs.Signed.{sfits}
 use Rattle.alloc.proofs.leaks_of.Statement.{statement}
 use Rattle.alloc.proofs.leaks_of.Tie as tie
 

@@ -7,9 +7,10 @@ use mir.Syntax.{w32}
 use mir.Val.{SFits}
 use mir.Facts.{toZ-ofZ}
 use Rattle.refusal.specs.Refusals.{taken}
-use Rattle.alloc.specs.Codes.{codedOf, snrOf, levelsOf}
-use Rattle.alloc.proofs.Signed.{sfits}
-use Rattle.alloc.specs.Codes.{codeAt, kneeTable, floorTable}
+use Rattle.tables.specs.Codes.{codedOf, snrOf}
+use Rattle.alloc.specs.Params.{levelsOf}
+use Rattle.tables.proofs.Signed.{sfits}
+use Rattle.tables.specs.Codes.{codeAt, kneeTable, floorTable}
 use Rattle.alloc.proofs.levels_of.Statement.{statement}
 use Rattle.alloc.proofs.levels_of.Tie as tie
 

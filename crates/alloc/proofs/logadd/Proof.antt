@@ -9,9 +9,9 @@ use lib.IntN.{pos, _-ℤ_, _+ℤ_, natAbs}
 use mir.Syntax.{w32}
 use mir.Val.{SFits}
 use mir.Facts.{toZ-ofZ, toZ-pos}
-use Rattle.alloc.specs.Numbers.{maxZ}
+use Rattle.tables.specs.Numbers.{maxZ}
 use Rattle.alloc.specs.Clauses.{logadd}
-use Rattle.alloc.proofs.Signed.{sfits, min-law, add-law, max-law, same, parts}
+use Rattle.tables.proofs.Signed.{sfits, min-law, add-law, max-law, same, parts}
 use Rattle.alloc.proofs.logadd.Statement.{statement}
 use Rattle.alloc.proofs.logadd.Tie as tie
 

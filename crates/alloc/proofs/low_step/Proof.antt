@@ -6,7 +6,7 @@ use mir.Syntax.{w32}
 use mir.Val.{SFits}
 use mir.Facts.{toZ-ofZ}
 use Rattle.refusal.specs.Refusals.{taken}
-use Rattle.alloc.proofs.Signed.{sfits}
+use Rattle.tables.proofs.Signed.{sfits}
 use Rattle.alloc.specs.Clauses.{rises, lowStep}
 use Rattle.alloc.proofs.low_step.Statement.{statement}
 use Rattle.alloc.proofs.low_step.Tie as tie

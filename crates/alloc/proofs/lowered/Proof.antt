@@ -6,7 +6,7 @@ use lib.IntN.{_-ℤ_}
 use mir.Syntax.{w32}
 use mir.Val.{SFits}
 use mir.Facts.{toZ-ofZ}
-use Rattle.alloc.proofs.Signed.{sfits, min-law}
+use Rattle.tables.proofs.Signed.{sfits, min-law}
 use Rattle.alloc.proofs.lowered.Statement.{statement}
 use Rattle.alloc.proofs.lowered.Tie as tie
 

@@ -7,8 +7,8 @@ use lib.IntN.{pos, _-ℤ_}
 use mir.Syntax.{w32}
 use mir.Val.{SFits}
 use mir.Facts.{toZ-ofZ}
-use Rattle.alloc.specs.Numbers.{up, dn}
-use Rattle.alloc.proofs.Signed.{sfits, min-law, lt-true, lt-false, parts, to-usize, abs-law}
+use Rattle.tables.specs.Numbers.{up, dn}
+use Rattle.tables.proofs.Signed.{sfits, min-law, lt-true, lt-false, parts, to-usize, abs-law}
 use Rattle.alloc.proofs.magnitude.Statement.{statement}
 use Rattle.alloc.proofs.magnitude.Tie as tie
 

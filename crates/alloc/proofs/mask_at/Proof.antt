@@ -8,9 +8,9 @@ use lib.Signed.{shrZ}
 use mir.Syntax.{w32}
 use mir.Val.{SFits}
 use mir.Facts.{toZ-ofZ, toZ-pos}
-use Rattle.alloc.specs.Numbers.{Within}
+use Rattle.tables.specs.Numbers.{Within}
 use Rattle.alloc.specs.Clauses.{maskAt}
-use Rattle.alloc.proofs.Signed.{sfits, within-fits, within-sub, within-add, shr4-law}
+use Rattle.tables.proofs.Signed.{sfits, within-fits, within-sub, within-add, shr4-law}
 use Rattle.alloc.proofs.mask_at.Statement.{statement}
 use Rattle.alloc.proofs.mask_at.Tie as tie
 

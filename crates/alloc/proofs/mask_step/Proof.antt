@@ -8,9 +8,9 @@ use lib.IntN.{ℤ, pos, natAbs, _-ℤ_, _+ℤ_}
 use mir.Syntax.{w32}
 use mir.Val.{SFits}
 use mir.Facts.{toZ-ofZ, toZ-pos}
-use Rattle.alloc.specs.Numbers.{Within, up, dn}
+use Rattle.tables.specs.Numbers.{Within, up, dn}
 use Rattle.alloc.specs.Clauses.{maskStep}
-use Rattle.alloc.proofs.Signed.{sfits, min-law, add-law, max-law, same, parts, to-usize, abs-law}
+use Rattle.tables.proofs.Signed.{sfits, min-law, add-law, max-law, same, parts, to-usize, abs-law}
 use Rattle.alloc.proofs.mask_step.Statement.{statement}
 use Rattle.alloc.proofs.mask_step.Tie as tie
 

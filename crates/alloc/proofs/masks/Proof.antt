@@ -11,7 +11,7 @@ use mir.Val.{SFits, toZ, ofZ}
 use mir.Facts.{toZ-ofZ}
 use Rattle.alloc.specs.Table.{from}
 use Rattle.alloc.specs.Clauses.{maskAt, masksOf}
-use Rattle.alloc.proofs.Signed.{within-fits}
+use Rattle.tables.proofs.Signed.{within-fits}
 use Rattle.alloc.proofs.TableLaws.{fill-start}
 use Rattle.alloc.proofs.Turns.{masks-turn}
 use Rattle.alloc.proofs.masks.Statement.{statement}

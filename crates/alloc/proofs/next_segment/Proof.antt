@@ -6,7 +6,7 @@ use borrow.Author.Needs.{needs}
 use mir.Syntax.{w32}
 use mir.Val.{SFits}
 use mir.Facts.{toZ-ofZ}
-use Rattle.alloc.specs.Numbers.{Within}
+use Rattle.tables.specs.Numbers.{Within}
 use Rattle.alloc.proofs.RangeLaws.{delta-within}
 use Rattle.alloc.proofs.next_segment.Statement.{statement}
 use Rattle.alloc.proofs.next_segment.Tie as tie

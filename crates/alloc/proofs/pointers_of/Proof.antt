@@ -7,12 +7,12 @@ use native.Mathlib.Omega.{arith}
 use borrow.Author.Needs.{needs}
 use lib.IntN.{ℤ}
 use mir.Facts.{toZ-ofZ}
-use Rattle.alloc.specs.Numbers.{Each}
+use Rattle.tables.specs.Numbers.{Each}
 use Rattle.alloc.specs.Clauses.{powersOf, deltasOf, bapsOf}
 use Rattle.alloc.specs.Channel.{of, masksFrom, pointersOf}
-use Rattle.alloc.proofs.Signed.{within-fits, widen}
+use Rattle.tables.proofs.Signed.{within-fits, widen}
 use Rattle.alloc.proofs.RangeLaws.{deltas-each, powers-each}
-use Rattle.alloc.proofs.CodeLaws.{upto-at}
+use Rattle.tables.proofs.FitLaws.{upto-at}
 use Rattle.alloc.proofs.pointers_of.Statement.{statement}
 use Rattle.alloc.proofs.pointers_of.Tie as tie
 

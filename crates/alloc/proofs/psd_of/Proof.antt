@@ -7,7 +7,7 @@ use borrow.Author.Needs.{needs}
 use mir.Syntax.{w32}
 use mir.Facts.{toZ-ofZ, toZ-pos}
 use Rattle.alloc.specs.Clauses.{psdOf}
-use Rattle.alloc.proofs.Signed.{sfits, min-law}
+use Rattle.tables.proofs.Signed.{sfits, min-law}
 use Rattle.alloc.proofs.psd_of.Statement.{statement}
 use Rattle.alloc.proofs.psd_of.Tie as tie
 

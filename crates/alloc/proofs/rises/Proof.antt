@@ -7,9 +7,9 @@ use mir.Syntax.{w32}
 use mir.Val.{SFits}
 use mir.Facts.{toZ-ofZ}
 use Rattle.refusal.specs.Refusals.{taken}
-use Rattle.alloc.proofs.Signed.{sfits}
+use Rattle.tables.proofs.Signed.{sfits}
 use Rattle.alloc.specs.Clauses.{rises}
-use Rattle.alloc.proofs.Signed.{add-law, eqZ-refl, eqZ-ne, bits-eq, bits-ne}
+use Rattle.tables.proofs.Signed.{add-law, eqZ-refl, eqZ-ne, bits-eq, bits-ne}
 use Rattle.alloc.proofs.rises.Statement.{statement}
 use Rattle.alloc.proofs.rises.Tie as tie
 

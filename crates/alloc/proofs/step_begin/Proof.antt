@@ -5,9 +5,9 @@ use lib.IntN.{ℤ, _-ℤ_}
 use mir.Syntax.{w32}
 use mir.Val.{SFits}
 use mir.Facts.{toZ-ofZ}
-use Rattle.alloc.specs.Numbers.{Within}
+use Rattle.tables.specs.Numbers.{Within}
 use Rattle.alloc.specs.Excite.{stepBegin}
-use Rattle.alloc.proofs.Signed.{within-fits, within-sub}
+use Rattle.tables.proofs.Signed.{within-fits, within-sub}
 use Rattle.alloc.proofs.step_begin.Statement.{statement}
 use Rattle.alloc.proofs.step_begin.Tie as tie
 

@@ -5,9 +5,9 @@ use lib.IntN.{ℤ, _-ℤ_}
 use mir.Syntax.{w32}
 use mir.Val.{SFits}
 use mir.Facts.{toZ-ofZ}
-use Rattle.alloc.specs.Numbers.{Within}
+use Rattle.tables.specs.Numbers.{Within}
 use Rattle.alloc.specs.Excite.{stepFirst}
-use Rattle.alloc.proofs.Signed.{sfits, min-law, within-fits}
+use Rattle.tables.proofs.Signed.{sfits, min-law, within-fits}
 use Rattle.alloc.proofs.step_first.Statement.{statement}
 use Rattle.alloc.proofs.step_first.Tie as tie
 

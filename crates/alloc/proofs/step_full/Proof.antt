@@ -5,9 +5,9 @@ use native.Mathlib.Omega.{arith}
 use borrow.Author.Needs.{needs}
 use borrow.Author.Tests.{lt-ltb, le-ltb}
 use mir.Facts.{toZ-ofZ}
-use Rattle.alloc.specs.Numbers.{Within}
+use Rattle.tables.specs.Numbers.{Within}
 use Rattle.alloc.specs.Excite.{stepFull, lowNext}
-use Rattle.alloc.proofs.Signed.{within-fits, widen}
+use Rattle.tables.proofs.Signed.{within-fits, widen}
 use Rattle.alloc.proofs.RangeLaws.{lowNext-within}
 use Rattle.alloc.proofs.step_full.Statement.{statement}
 use Rattle.alloc.proofs.step_full.Tie as tie

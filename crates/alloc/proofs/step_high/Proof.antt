@@ -6,7 +6,7 @@ use mir.Syntax.{w32}
 use mir.Val.{SFits}
 use mir.Facts.{toZ-ofZ}
 use Rattle.alloc.specs.Excite.{stepHigh, decayed}
-use Rattle.alloc.proofs.Signed.{within-fits}
+use Rattle.tables.proofs.Signed.{within-fits}
 use Rattle.alloc.proofs.step_high.Statement.{statement}
 use Rattle.alloc.proofs.step_high.Tie as tie
 

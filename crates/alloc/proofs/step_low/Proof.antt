@@ -7,7 +7,7 @@ use mir.Syntax.{w32}
 use mir.Val.{SFits}
 use mir.Facts.{toZ-ofZ}
 use Rattle.alloc.specs.Excite.{stepLow, decayed}
-use Rattle.alloc.proofs.Signed.{within-fits, within-sub}
+use Rattle.tables.proofs.Signed.{within-fits, within-sub}
 use Rattle.alloc.proofs.RangeLaws.{decayed-within}
 use Rattle.alloc.proofs.step_low.Statement.{statement}
 use Rattle.alloc.proofs.step_low.Tie as tie

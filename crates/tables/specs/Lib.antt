@@ -1,0 +1,5 @@
+pub mod Numbers
+pub mod Bands
+pub mod Codes
+pub mod Pointers
+pub mod Fits
