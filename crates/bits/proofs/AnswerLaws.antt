@@ -1,15 +1,16 @@
 -- Laws of the answers: what a caller learns from an answer, and which answer it gets where it knows the range.
 -- Assumes nothing.
-use mathlib.Core.Path.{_≡_, sym}
+use mathlib.Core.Path.{_≡_, sym, ap}
 use mathlib.Core.List.{List}
+use mathlib.Core.Bool.{true, false}
 use Prim.Native.Nat.{ℕ, _+_, _*_, _^_, _≤_, _<_}
 use lib.ListN.{length}
 use lib.Dec.{ltb}
 use borrow.Author.Tests.{le-ltb, lt-ltb, ltb-false}
-use Rattle.refusal.specs.Refusals.{grounds, taken, refused, pastLimit}
+use Rattle.refusal.specs.Refusals.{Grounds, grounds, taken, refused, pastLimit}
 use Rattle.refusal.proofs.Laws.{taken-same, past-refuseIf, past-limit, past-then}
 use Rattle.bits.specs.Bits.{bitsAt, setBits}
-use Rattle.bits.specs.Answers.{fitOf, getOf, setOf}
+use Rattle.bits.specs.Answers.{beyond, fitOf, getOf, setOf}
 use Rattle.bits.proofs.Laws.{bitsAt-lt}
 
 module _ (bs : List ℕ) (pos n : ℕ) where
@@ -43,6 +44,17 @@ pub record Read (bs : List ℕ) (pos n v : ℕ) : Type 0 where
   pub inside : pos + n ≤ 8 * length bs
   pub value : v ≡ bitsAt bs pos n
   pub below : v < 2 ^ n
+
+-- the tests of a range: the first that holds tells its refusal
+module _ (len pos n : ℕ) where
+  pub fit-wide : {g : Grounds} → ltb 32 n ≡ true → g ≡ grounds 6 0 → refused g ≡ fitOf len pos n
+  fit-wide t e = simp t (ap refused e)
+
+  pub fit-past : {g : Grounds} → ltb 32 n ≡ false → beyond len pos n ≡ true → g ≡ grounds 1 0 → refused g ≡ fitOf len pos n
+  fit-past t u e = simp (t, u) (ap refused e)
+
+  pub fit-done : ltb 32 n ≡ false → beyond len pos n ≡ false → taken tt ≡ fitOf len pos n
+  fit-done t u = simp (t, u)
 
 -- what the tests of a range that is taken show
 pub fit-inside : (len pos n : ℕ) → fitOf len pos n ≡ taken tt → (n ≤ 32) × (pos + n ≤ 8 * len)

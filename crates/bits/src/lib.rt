@@ -106,10 +106,12 @@ fn word(s: &[u8], first: usize, off: usize, n: usize) -> u32
 fn fit(len: usize, pos: usize, n: usize) -> Put
     ensures { λ r. ⌜ doneOf r ≡ fitOf len pos n ⌝ }
 {
-    if 32 < n {
+    let too_wide = 32 < n;
+    let past_end = passes(len, pos, n);
+    if too_wide {
         return Put::Refused(wide());
     }
-    if passes(len, pos, n) {
+    if past_end {
         return Put::Refused(past());
     }
     Put::Done
