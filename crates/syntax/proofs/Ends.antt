@@ -10,11 +10,13 @@ use borrow.Author.Tests.{le-ltb}
 use Rattle.refusal.specs.Refusals.{Grounds, Outcome, taken, refused, andThen, Ran, settle, follow}
 use Rattle.refusal.proofs.Laws.{never, settle-stays, settle-moves, run-stops}
 use Rattle.bits.specs.Bits.{bitsAt}
+use Rattle.bits.specs.Answers.{gotOf}
 use Rattle.syntax.specs.declared.Role.{Role}
 use Rattle.syntax.specs.declared.Ask.{Ask}
 use Rattle.syntax.specs.declared.Place.{Place}
+use Rattle.syntax.specs.declared.Reading.{Reading}
 use Rattle.syntax.specs.declared.Reader.{Reader}
-use Rattle.syntax.specs.Reads.{Standing, standing, fits, elementOf, logged, readOf, spanAsk, spanOf, closes, closeOf, nextOf, seenOf, readerOf}
+use Rattle.syntax.specs.Reads.{Standing, standing, readingOf, rawReadingOf, fits, elementOf, logged, readOf, spanAsk, spanOf, closes, closeOf, nextOf, seenOf, readerOf}
 use Rattle.syntax.proofs.Bools.{clash}
 
 module _ {S A : Type 0} (s s′ : S) where
@@ -32,6 +34,15 @@ module _ {S A : Type 0} (s s′ : S) where
   then-refused false g (refused k) v e f =
       ap (λ (o : Outcome Unit). settle s s′ (andThen o (λ _. taken v))) f
 
+-- a reading's meaning, by its parts
+pub raw-is : (q : Reading) {p : Place} {o : Outcome ℕ} → q .place ≡ p → gotOf (q .answer) ≡ o → rawReadingOf q ≡ record { outcome = o; state = p }
+raw-is q {p} e f =
+    ap {B = Ran Place ℕ} (λ x. record { outcome = gotOf (q .answer); state = x }) e ∙ ap {B = Ran Place ℕ} (λ x. record { outcome = x; state = p }) f
+
+pub reading-is : (q : Reading) (log : List ℕ) {p : Place} {o : Outcome ℕ} → q .place ≡ p → gotOf (q .answer) ≡ o
+    → readingOf q log ≡ record { outcome = o; state = standing p log }
+reading-is q log e f = ap {B = Ran Standing ℕ} (λ (x : Ran Place ℕ). record { outcome = x .outcome; state = standing (x .state) log }) (raw-is q e f)
+
 -- the two ends of a read whose width is at most 32
 module _ (frame : List ℕ) (st : Standing) (a : Ask) (narrow : a .width ≤ 32) where
   pub read-on : (v : ℕ) → v ≡ bitsAt frame (st .place .pos) (a .width)
@@ -45,6 +56,10 @@ module _ (frame : List ℕ) (st : Standing) (a : Ask) (narrow : a .width ≤ 32)
       → _≡_ {A = Ran Standing ℕ} (record { outcome = refused g; state = st }) (readOf frame st a)
   unfolding readOf
   read-stops f = sym (then-refused _ _ (ltb 32 (a .width)) _ (fits (length frame) (length (st .log)) (st .place) (a .width)) _ (le-ltb 32 (a .width) narrow) f)
+
+  pub read-stays : (q : Reading) {g : Grounds} → q .place ≡ st .place → gotOf (q .answer) ≡ refused g
+      → fits (length frame) (length (st .log)) (st .place) (a .width) ≡ refused g → readingOf q (st .log) ≡ readOf frame st a
+  read-stays q e f h = reading-is q (st .log) e f ∙ read-stops h
 
 -- the two ends of a span
 module _ (len : ℕ) (st : Standing) (name : ℕ) (role : Role) (width : ℕ) where

@@ -13,7 +13,7 @@ ghost use mathlib.Core.List.{[], _∷_, _++_};
 ghost use Prim.Native.Nat.{_+_, _*_, _≤_, _<_, _/_};
 ghost use lib.ListN.{length, take, drop};
 ghost use lib.Dec.{ltb};
-ghost use Rattle.refusal.specs.Refusals.{groundsOf, grounds, taken};
+ghost use Rattle.refusal.specs.Refusals.{groundsOf, grounds, taken, told};
 ghost use Rattle.bits.specs.Bits.{bitsAt};
 ghost use Rattle.bits.specs.Answers.{gotOf, doneOf};
 ghost use Rattle.syntax.specs.Elements.{roleNumber, programmeOf, roleWord, roleOf, isDrc, isChecksum, isSpan, endOf, signedWord, signedOf, written, decoded};
@@ -347,13 +347,13 @@ fn past_limit(place: Place) -> Refusal
     }
 }
 
-// Refusal 19 at the cursor: the log is full.
-fn full(place: Place) -> Refusal
-    ensures { λ r. ⌜ groundsOf r ≡ grounds 19 (place .pos) ⌝ }
+// Refusal 19 at a bit: the log is full.
+fn full(bit: usize) -> Refusal
+    ensures { λ r. ⌜ groundsOf r ≡ grounds 19 bit ⌝ }
 {
     Refusal {
         why: Why::LogFull,
-        bit: place.pos,
+        bit,
     }
 }
 
@@ -400,11 +400,13 @@ fn fit(len: usize, words: usize, place: Place, width: usize) -> Put
     if most < count {
         return Put::Refused(unfit(place.pos));
     }
-    if passes(place, width) {
+    let past_end = passes(place, width);
+    let no_room = count == most;
+    if past_end {
         return Put::Refused(past_limit(place));
     }
-    if count == most {
-        return Put::Refused(full(place));
+    if no_room {
+        return Put::Refused(full(place.pos));
     }
     Put::Done
 }
@@ -429,7 +431,7 @@ fn closable(len: usize, words: usize, place: Place, start: usize) -> Put
         return Put::Refused(unfit(pos));
     }
     if count == most {
-        return Put::Refused(full(place));
+        return Put::Refused(full(pos));
     }
     Put::Done
 }
@@ -470,6 +472,14 @@ fn log_element(log: &mut [u32], place: Place, ask: Ask, start: usize, value: u32
     next
 }
 
+// A read that is refused stays where it is.
+fn stay(place: Place, r: Refusal) -> Reading
+    ensures { λ q. ⌜ (q .place ≡ place) × (gotOf (q .answer) ≡ told r) ⌝ }
+{
+    let answer = Got::Refused(r);
+    Reading { answer, place }
+}
+
 // Reads one element and logs it: 6, then 1, then 19. A refused read changes neither place nor log.
 pub fn read_element(frame: &[u8], log: &mut [u32], place: Place, ask: Ask) -> Reading
     ensures { λ r. ⌜ readingOf r (now (log .exit)) ≡ readOf (now (frame .entry)) (standing place (now (log .entry))) ask ⌝ }
@@ -477,8 +487,7 @@ pub fn read_element(frame: &[u8], log: &mut [u32], place: Place, ask: Ask) -> Re
     let pos = place.pos;
     let width = ask.width;
     if 32 < width {
-        let answer = Got::Refused(unfit(pos));
-        return Reading { answer, place };
+        return stay(place, unfit(pos));
     }
     match fit(frame.len(), log.len(), place, width) {
         Put::Done => {
@@ -489,10 +498,7 @@ pub fn read_element(frame: &[u8], log: &mut [u32], place: Place, ask: Ask) -> Re
                 place: next,
             }
         }
-        Put::Refused(r) => Reading {
-            answer: Got::Refused(r),
-            place,
-        },
+        Put::Refused(r) => stay(place, r),
     }
 }
 
@@ -502,16 +508,13 @@ pub fn read_raw(frame: &[u8], place: Place, width: usize) -> Reading
 {
     let pos = place.pos;
     if is_unsound(frame.len(), place) {
-        let answer = Got::Refused(unfit(pos));
-        return Reading { answer, place };
+        return stay(place, unfit(pos));
     }
     if 32 < width {
-        let answer = Got::Refused(unfit(pos));
-        return Reading { answer, place };
+        return stay(place, unfit(pos));
     }
     if passes(place, width) {
-        let answer = Got::Refused(past_limit(place));
-        return Reading { answer, place };
+        return stay(place, past_limit(place));
     }
     let value = fetched(frame, pos, width);
     let mut next = place;

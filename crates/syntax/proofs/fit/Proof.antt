@@ -1,9 +1,10 @@
 -- `syntax::fit` meets its contract: each test picks its case of the definition.
 -- Assumes nothing.
 use mathlib.Core.Path.{_∙_, sym, ap}
-use borrow.Author.Tests.{lt-ltb, le-ltb, eq-eqb, ne-eqb}
+use borrow.Author.Tests.{lt-ltb}
 use Rattle.refusal.specs.Refusals.{refused}
 use Rattle.syntax.specs.Reads.{fits}
+use Rattle.syntax.proofs.Tests.{fits-past, fits-full, fits-done}
 use borrow.Author.Needs.{needs}
 use Rattle.syntax.proofs.fit.Statement.{statement}
 use Rattle.syntax.proofs.fit.Tie as tie
@@ -23,38 +24,32 @@ returns-2 c =
     (ap refused (c .unfit2 .ensures))
 
 returns-3 : tie.Need-returns-3
-unfolding fits
 returns-3 c =
-    simp (
-      sym (c .before .before .before .before .before .is-unsound .ensures) ∙ c .before .before .before .before .if1 .left,
-      sym (c .before .before .before .before .before .before .room-of .ensures),
-      le-ltb _ _ (c .before .before .before .if2 .left),
-      sym (c .before .before .passes .ensures) ∙ c .before .if3 .taken,
-    )
-    (ap refused (c .past-limit .ensures))
+    let a = c .before .before .before .before .before .before .before .args in
+    fits-past (a .len) (a .words) (a .place) (a .width) (c .before .before .before .before .before .before .room-of .ensures)
+    (sym (c .before .before .before .before .before .is-unsound .ensures) ∙ c .before .before .before .before .if1 .left)
+    (c .before .before .before .if2 .left)
+    (sym (c .before .before .passes .ensures) ∙ (search))
+    (search)
 
 returns-4 : tie.Need-returns-4
-unfolding fits
 returns-4 c =
-    simp (
-      sym (c .before .before .before .before .before .before .is-unsound .ensures) ∙ c .before .before .before .before .before .if1 .left,
-      sym (c .before .before .before .before .before .before .before .room-of .ensures),
-      le-ltb _ _ (c .before .before .before .before .if2 .left),
-      sym (c .before .before .before .passes .ensures) ∙ c .before .before .if3 .left,
-      eq-eqb _ _ (c .before .if4 .taken),
-    )
-    (ap refused (c .full .ensures))
+    let a = c .before .before .before .before .before .before .before .before .args in
+    fits-full (a .len) (a .words) (a .place) (a .width) (c .before .before .before .before .before .before .before .room-of .ensures)
+    (sym (c .before .before .before .before .before .before .is-unsound .ensures) ∙ c .before .before .before .before .before .if1 .left)
+    (c .before .before .before .before .if2 .left)
+    (sym (c .before .before .before .passes .ensures) ∙ (search))
+    (search)
+    (search)
 
 returns-5 : tie.Need-returns-5
-unfolding fits
 returns-5 c =
-    simp (
-      sym (c .before .before .before .before .before .is-unsound .ensures) ∙ c .before .before .before .before .if1 .left,
-      sym (c .before .before .before .before .before .before .room-of .ensures),
-      le-ltb _ _ (c .before .before .before .if2 .left),
-      sym (c .before .before .passes .ensures) ∙ c .before .if3 .left,
-      ne-eqb _ _ (c .if4 .left),
-    )
+    let a = c .before .before .before .before .before .before .before .args in
+    fits-done (a .len) (a .words) (a .place) (a .width) (c .before .before .before .before .before .before .room-of .ensures)
+    (sym (c .before .before .before .before .before .is-unsound .ensures) ∙ c .before .before .before .before .if1 .left)
+    (c .before .before .before .if2 .left)
+    (sym (c .before .before .passes .ensures) ∙ (search))
+    (search)
 
 pub fit-spec : {M : Type 1} → statement M
 fit-spec =

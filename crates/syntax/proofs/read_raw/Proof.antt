@@ -5,10 +5,10 @@ use Prim.Native.Nat.{ℕ, _+_}
 use lib.ListN.{length}
 use denote.Ref.{now}
 use borrow.Author.Tests.{lt-ltb, le-ltb, ltb-false}
-use Rattle.refusal.specs.Refusals.{Grounds, taken, refused, Ran}
-use Rattle.syntax.specs.declared.Place.{Place}
+use Rattle.refusal.specs.Refusals.{taken, refused}
 use Rattle.syntax.specs.Reads.{ahead, rawOf}
 use Rattle.syntax.proofs.Tests.{sound-limit}
+use Rattle.syntax.proofs.Ends.{raw-is}
 use borrow.Author.Needs.{needs}
 use native.Mathlib.Omega.{arith}
 use Rattle.syntax.proofs.read_raw.Statement.{statement}
@@ -16,26 +16,28 @@ use Rattle.syntax.proofs.read_raw.Tie as tie
 
 returns : tie.Need-returns
 unfolding rawOf
-returns c = simp (sym (c .before .before .is-unsound .ensures) ∙ c .before .if1 .taken) (ap {B = Ran Place ℕ} (λ (g : Grounds). record { outcome = refused g; state = c .before .before .before .before .args .place }) (c .unfit .ensures))
+returns c =
+    raw-is (c .stay .result) (c .stay .ensures .0) (c .stay .ensures .1 ∙ ap refused (c .before .unfit .ensures))
+    ∙ simp (sym (c .before .before .before .is-unsound .ensures) ∙ c .before .before .if1 .taken)
 
 returns-2 : tie.Need-returns-2
 unfolding rawOf
 returns-2 c =
-    simp (
-      sym (c .before .before .before .is-unsound .ensures) ∙ c .before .before .if1 .left,
-      lt-ltb _ _ (c .before .if2 .taken),
+    raw-is (c .stay2 .result) (c .stay2 .ensures .0) (c .stay2 .ensures .1 ∙ ap refused (c .before .unfit2 .ensures))
+    ∙ simp (
+      sym (c .before .before .before .before .is-unsound .ensures) ∙ c .before .before .before .if1 .left,
+      lt-ltb _ _ (c .before .before .if2 .taken),
     )
-    (ap {B = Ran Place ℕ} (λ (g : Grounds). record { outcome = refused g; state = c .before .before .before .before .before .args .place }) (c .unfit2 .ensures))
 
 returns-3 : tie.Need-returns-3
 unfolding rawOf
 returns-3 c =
-    simp (
-      sym (c .before .before .before .before .before .is-unsound .ensures) ∙ c .before .before .before .before .if1 .left,
-      le-ltb _ _ (c .before .before .before .if2 .left),
-      sym (c .before .before .passes .ensures) ∙ c .before .if3 .taken,
+    raw-is (c .stay3 .result) (c .stay3 .ensures .0) (c .stay3 .ensures .1 ∙ ap refused (c .before .past-limit .ensures))
+    ∙ simp (
+      sym (c .before .before .before .before .before .before .is-unsound .ensures) ∙ c .before .before .before .before .before .if1 .left,
+      le-ltb _ _ (c .before .before .before .before .if2 .left),
+      sym (c .before .before .before .passes .ensures) ∙ c .before .before .if3 .taken,
     )
-    (ap {B = Ran Place ℕ} (λ (g : Grounds). record { outcome = refused g; state = c .before .before .before .before .before .before .before .args .place }) (c .past-limit .ensures))
 
 fetched-requires : tie.Need-fetched-requires
 fetched-requires c κs =
@@ -67,9 +69,12 @@ read-raw-spec =
     (tie.spec
     (λ c κs. search needs)
     (λ c κs. search needs)
+    (λ c κs. search needs)
     returns
     (λ c κs. search needs)
+    (λ c κs. search needs)
     returns-2
+    (λ c κs. search needs)
     (λ c κs. search needs)
     (λ c κs. search needs)
     returns-3
