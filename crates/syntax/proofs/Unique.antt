@@ -36,6 +36,10 @@ use Rattle.syntax.proofs.is_span.Kinds as is-span-kinds
 use Rattle.syntax.proofs.is_span.Reads as is-span-reads
 use Rattle.syntax.proofs.end.Kinds as end-kinds
 use Rattle.syntax.proofs.end.Reads as end-reads
+use Rattle.syntax.proofs.is_unsound.Kinds as is-unsound-kinds
+use Rattle.syntax.proofs.is_unsound.Reads as is-unsound-reads
+use Rattle.syntax.proofs.passes.Kinds as passes-kinds
+use Rattle.syntax.proofs.passes.Reads as passes-reads
 use Rattle.syntax.proofs.read_element.Kinds as read-element-kinds
 use Rattle.syntax.proofs.read_element.Reads as read-element-reads
 use Rattle.syntax.proofs.read_raw.Kinds as read-raw-kinds
@@ -110,6 +114,12 @@ is-span-one κs a x y s t p q = p ∙ sym q
 
 pub end-one : Decides 0 end-kinds.ps end-kinds.r end-reads.Post
 end-one κs a x y s t p q = p ∙ sym q
+
+pub is-unsound-one : Decides 0 is-unsound-kinds.ps is-unsound-kinds.r is-unsound-reads.Post
+is-unsound-one κs a x y s t p q = p ∙ sym q
+
+pub passes-one : Decides 0 passes-kinds.ps passes-kinds.r passes-reads.Post
+passes-one κs a x y s t p q = p ∙ sym q
 
 pub read-element-one : (κs : Lfts 2) (a : Dens κs read-element-kinds.ps) (x y : Reading) (s t : AtExit (endedOf 2 read-element-kinds.ps read-element-kinds.r) κs)
     → read-element-reads.Post κs a x s → read-element-reads.Post κs a y t → (x ≡ y) × (now (s .1 .0) ≡ now (t .1 .0))

@@ -366,7 +366,7 @@ fn room_of(words: usize) -> usize
 }
 
 // Whether a cursor's limit is above 32,768 bits, or past len bytes of data. Bytes are compared, since 8 * len may pass a usize.
-fn is_unsound(len: usize, place: Place) -> bool
+pub fn is_unsound(len: usize, place: Place) -> bool
     ensures { λ r. ⌜ r ≡ unsound len place ⌝ }
 {
     let limit = place.limit;
@@ -377,7 +377,7 @@ fn is_unsound(len: usize, place: Place) -> bool
 }
 
 // Whether width bits from the cursor on pass its limit. The sum may pass a usize, so the difference is compared.
-fn passes(place: Place, width: usize) -> bool
+pub fn passes(place: Place, width: usize) -> bool
     ensures { λ r. ⌜ r ≡ ltb (place .limit) (place .pos + width) ⌝ }
 {
     let pos = place.pos;
