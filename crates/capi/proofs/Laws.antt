@@ -8,6 +8,11 @@ use Rattle.refusal.specs.Refusals.{Grounds, grounds, Outcome, taken, refused, R
 use Rattle.syntax.specs.declared.Place.{Place}
 use Rattle.syntax.specs.declared.Role.{Role}
 use Rattle.syntax.specs.Reads.{Standing, standing, closeOf, closes}
+use Rattle.alloc.specs.declared.Codes.{Codes}
+use Rattle.alloc.specs.declared.Leak.{Leak}
+use Rattle.tables.specs.declared.Delta.{Delta}
+use Rattle.tables.specs.declared.Pointers.{Pointers}
+use Rattle.alloc.specs.Answers.{allocateOf}
 use Rattle.capi.specs.Replies.{Told, told, toldOf, Reply, reply, replyOf, running, runningOf}
 use Rattle.capi.specs.Standings.{stood, stoodOf, moved, movedOf, advanced, advancedOf}
 
@@ -50,3 +55,9 @@ settled s s′ (refused g) e = refl
 pub close-stays : (len : ℕ) (st : Standing) (name : ℕ) (role : Role) (start : ℕ) → closeOf len st name role start .state .place .pos ≡ st .place .pos
 unfolding closeOf
 close-stays len st name role start = settled st _ (closes len (length (st .log)) (st .place) start) refl
+
+-- an allocation by side information that is the same
+pub allocated-alike : (exp : List ℕ) (start end : ℕ) (hearing logAdd : List ℕ) {k k′ : Codes} {l l′ : Leak} {d d′ : Delta} {w w′ : Pointers}
+    → k ≡ k′ → l ≡ l′ → d ≡ d′ → w ≡ w′
+    → allocateOf exp start end k l d w hearing logAdd ≡ allocateOf exp start end k′ l′ d′ w′ hearing logAdd
+allocated-alike exp start end hearing logAdd a b c e = λ i. allocateOf exp start end (a i) (b i) (c i) (e i) hearing logAdd

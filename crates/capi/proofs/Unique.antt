@@ -38,6 +38,8 @@ use Rattle.capi.proofs.zela_check_tiling.Kinds as check-tiling-kinds
 use Rattle.capi.proofs.zela_check_tiling.Reads as check-tiling-reads
 use Rattle.capi.proofs.zela_element_at.Kinds as element-at-kinds
 use Rattle.capi.proofs.zela_element_at.Reads as element-at-reads
+use Rattle.capi.proofs.zela_allocate.Kinds as allocate-kinds
+use Rattle.capi.proofs.zela_allocate.Reads as allocate-reads
 
 pub get-one : (κs : Lfts 3) (a : Dens κs get-kinds.ps) (x y : ℕ) (s t : AtExit (endedOf 3 get-kinds.ps get-kinds.r) κs)
     → get-reads.Post κs a x s → get-reads.Post κs a y t
@@ -123,3 +125,9 @@ pub element-at-one : (κs : Lfts 9) (a : Dens κs element-at-kinds.ps) (x y : �
     → reply x (fields (now (s .1 .1 .1 .0)) (now (s .1 .1 .1 .1 .0)) (now (s .1 .1 .1 .1 .1 .0)) (now (s .1 .1 .1 .1 .1 .1 .0)) (now (s .1 .1 .1 .1 .1 .1 .1 .0)) (now (s .1 .1 .1 .1 .1 .1 .1 .1 .0)) (now (s .1 .1 .1 .1 .1 .1 .1 .1 .1 .0))) (now (s .1 .1 .1 .1 .1 .1 .1 .1 .1 .1 .0))
     ≡ reply y (fields (now (t .1 .1 .1 .0)) (now (t .1 .1 .1 .1 .0)) (now (t .1 .1 .1 .1 .1 .0)) (now (t .1 .1 .1 .1 .1 .1 .0)) (now (t .1 .1 .1 .1 .1 .1 .1 .0)) (now (t .1 .1 .1 .1 .1 .1 .1 .1 .0)) (now (t .1 .1 .1 .1 .1 .1 .1 .1 .1 .0))) (now (t .1 .1 .1 .1 .1 .1 .1 .1 .1 .1 .0))
 element-at-one κs a x y s t p q = p ∙ sym q
+
+pub allocate-one : (κs : Lfts 9) (a : Dens κs allocate-kinds.ps) (x y : ℕ) (s t : AtExit (endedOf 9 allocate-kinds.ps allocate-kinds.r) κs)
+    → allocate-reads.Post κs a x s → allocate-reads.Post κs a y t
+    → running x (now (s .1 .1 .1 .1 .1 .1 .1 .1 .1 .1 .1 .1 .1 .1 .1 .0)) (now (s .1 .1 .1 .1 .1 .1 .1 .1 .1 .1 .1 .1 .1 .1 .0))
+    ≡ running y (now (t .1 .1 .1 .1 .1 .1 .1 .1 .1 .1 .1 .1 .1 .1 .1 .0)) (now (t .1 .1 .1 .1 .1 .1 .1 .1 .1 .1 .1 .1 .1 .1 .0))
+allocate-one κs a x y s t p q = p ∙ sym q

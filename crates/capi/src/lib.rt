@@ -3,6 +3,12 @@
 // A function answers 0 where the call is taken, or the refusal's number. Values and the refusal's bit go into room that the
 // caller lends; a value is 0 where the call is refused, and the bit is 0 where it is taken. A function that never refuses has
 // no room for a bit. include/zelamodurk.h says the same for each function in C's terms.
+use tables::Bin;
+use alloc::Codes;
+use tables::Delta;
+use alloc::Ended;
+use alloc::Leak;
+use tables::Pointers;
 use bits::Got;
 use bits::Judged;
 use bits::Put;
@@ -19,8 +25,10 @@ ghost use Rattle.crc.specs.Crc.{crcOf};
 ghost use Rattle.syntax.specs.Elements.{roleOf, isDrc, isChecksum, isSpan};
 ghost use Rattle.syntax.specs.Reads.{standing, readOf, rawOf, spanOf, closeOf};
 ghost use Rattle.syntax.specs.Tiling.{tilingOf, elementAt};
+ghost use Rattle.alloc.specs.Answers.{endedOf, allocateOf};
 ghost use Rattle.capi.specs.Replies.{reply, replyOf, told, toldOf, running, runningOf};
 ghost use Rattle.capi.specs.Standings.{placeOf, barePlaceOf, askOf, stood, stoodOf, moved, movedOf, advanced, advancedOf, fields, fieldsAt, noFields};
+ghost use Rattle.capi.specs.Channels.{codesFrom, leakFrom, deltaFrom, pointersFrom};
 
 // A refusal's number, with its bit in the room for it.
 fn tell(r: Refusal, bit: &mut usize) -> u8
@@ -349,4 +357,109 @@ pub extern "C" fn zela_element_at(
             tell(r, bit)
         }
     }
+}
+
+// What an allocation answers besides its pointers.
+fn ended(answer: Ended, bit: &mut usize) -> u8
+    ensures { λ k. ⌜ told k (now (bit .exit)) ≡ toldOf (endedOf answer) ⌝ }
+{
+    match answer {
+        Ended::Done => {
+            *bit = 0;
+            0
+        }
+        Ended::Refused(r) => tell(r, bit),
+    }
+}
+
+// The side information from a caller's nine bytes.
+fn codes_from(codes: &[u8; 9]) -> Codes
+    ensures { λ r. ⌜ r ≡ codesFrom (now (codes .entry)) ⌝ }
+{
+    Codes {
+        sdcycod: codes[0],
+        fdcycod: codes[1],
+        sgaincod: codes[2],
+        dbpbcod: codes[3],
+        floorcod: codes[4],
+        fgaincod: codes[5],
+        csnroffst: codes[6],
+        fsnroffst: codes[7],
+        fscod: codes[8],
+    }
+}
+
+// The leaks, where the caller has any.
+fn leak_from(has_leak: bool, cplfleak: u8, cplsleak: u8) -> Leak
+    ensures { λ r. ⌜ r ≡ leakFrom «has_leak» cplfleak cplsleak ⌝ }
+{
+    if has_leak {
+        return Leak::Codes(cplfleak, cplsleak);
+    }
+    Leak::None
+}
+
+// The delta segments from a caller's arrays.
+fn delta_from(segments: u8, offset: &[u8; 8], length: &[u8; 8], ba: &[u8; 8]) -> Delta
+    ensures { λ r. ⌜ r ≡ deltaFrom segments (now (offset .entry)) (now (length .entry)) (now (ba .entry)) ⌝ }
+{
+    Delta {
+        count: segments,
+        offset: *offset,
+        len: *length,
+        ba: *ba,
+    }
+}
+
+// The table of pointers: hebap where `high`.
+fn pointers_from(high: bool) -> Pointers
+    ensures { λ r. ⌜ r ≡ pointersFrom high ⌝ }
+{
+    if high {
+        return Pointers::Hebap;
+    }
+    Pointers::Bap
+}
+
+// alloc::allocate.
+#[no_mangle]
+pub extern "C" fn zela_allocate(
+    exponents: &[u8; 256],
+    start: usize,
+    end: usize,
+    codes: &[u8; 9],
+    has_leak: bool,
+    cplfleak: u8,
+    cplsleak: u8,
+    segments: u8,
+    offset: &[u8; 8],
+    length: &[u8; 8],
+    ba: &[u8; 8],
+    high: bool,
+    hearing: &[u16],
+    log_add: &[u8],
+    bap: &mut [u8; 256],
+    bit: &mut usize,
+) -> u8
+    ensures { λ k. ⌜ running k (now (bit .exit)) (now (bap .exit)) ≡ runningOf (allocateOf (now (exponents .entry)) start end (codesFrom (now (codes .entry))) (leakFrom «has_leak» cplfleak cplsleak) (deltaFrom segments (now (offset .entry)) (now (length .entry)) (now (ba .entry))) (pointersFrom high) (now (hearing .entry)) (now («log_add» .entry))) ⌝ }
+{
+    let side = codes_from(codes);
+    let leak = leak_from(has_leak, cplfleak, cplsleak);
+    let delta = delta_from(segments, offset, length, ba);
+    let which = pointers_from(high);
+    let r = alloc::allocate(
+        exponents,
+        Bin(start),
+        Bin(end),
+        side,
+        leak,
+        delta,
+        which,
+        hearing,
+        log_add,
+    );
+    let found = r.bap;
+    *bap = found;
+    let answer = r.answer;
+    ended(answer, bit)
 }

@@ -1,0 +1,31 @@
+-- `capi::zela_allocate` meets its contract: it hands over what the call below it answers.
+-- Assumes nothing.
+use mathlib.Core.Path.{_∙_}
+use denote.Ref.{now}
+use Rattle.capi.proofs.Laws.{running-as, allocated-alike}
+use borrow.Author.Needs.{needs}
+use Rattle.capi.proofs.zela_allocate.Statement.{statement}
+use Rattle.capi.proofs.zela_allocate.Tie as tie
+
+returns : tie.Need-returns
+returns c =
+    let r = c .before .before .before in
+    let w = r .before in
+    let d = w .before in
+    let l = d .before in
+    let k = l .before in
+    let a = k .before .before .before .args in
+    let asked = allocated-alike (now (a .exponents)) (a .start) (a .end) (now (a .hearing)) (now (a .log-add)) (k .codes-from .ensures) (l .leak-from .ensures) (d .delta-from .ensures) (w .pointers-from .ensures) in
+    running-as (r .allocate .ensures ∙ asked) (c .ended .ensures)
+
+pub zela-allocate-spec : {M : Type 1} → statement M
+zela-allocate-spec =
+    tie.close
+    (tie.spec
+    (λ c κs. search needs)
+    (λ c κs. search needs)
+    (λ c κs. search needs)
+    (λ c κs. search needs)
+    (λ c κs. search needs)
+    (λ c κs. search needs)
+    returns)
