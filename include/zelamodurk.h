@@ -6,17 +6,18 @@
  * THE CALLING CONVENTION, the same for every function here
  *
  *  - A function answers 0 where the call is taken, or the number of the refusal (enum zela_refusal).
- *  - What it finds goes into room that the caller lends: `value`, `is`. Where the call is refused, that
+ *  - What it finds goes into room that the caller lends: `value`, `is`, `bap`. Where the call is refused, that
  *    room holds 0 (false).
  *  - A function that can refuse has `bit` as its last argument: where the call is refused, the cursor's bit
  *    that the refusal carries, which is 0 where there is no cursor; where it is taken, 0.
  *    A function without `bit` never refuses.
  *  - So all such room is written by every call, and nothing of what stood in it is read. Room that is read and written,
  *    as a cursor's position, says so.
- *  - Bytes that a call may change (`uint8_t *`) are changed as the function says, and by a refused call
+ *  - Bytes that a call may change (`uint8_t *bytes`) are changed as the function says, and by a refused call
  *    not at all.
- *  - Bytes are lent as a pointer and then their number. A pointer is never NULL, also where the number is 0;
- *    what is lent to one call for writing overlaps nothing else that is lent to it.
+ *  - Bytes and words are lent as a pointer and then their number, an array whose size the prototype says as a
+ *    pointer alone. A pointer is never NULL, also where the number is 0; what is lent to one call for writing
+ *    overlaps nothing else that is lent to it.
  *  - Any bytes and any numbers may be handed in. Nothing is kept between calls, and nothing is allocated.
  *
  * "In this order": of several refusals that apply, the first named is given.
@@ -189,6 +190,36 @@ uint8_t zela_check_tiling(const uint32_t *log, size_t log_words, size_t count, s
  */
 uint8_t zela_element_at(const uint32_t *log, size_t log_words, size_t count, size_t k, uint32_t *name, uint32_t *role,
                         int8_t *block, int16_t *index, uint32_t *pos, uint32_t *width, uint32_t *value, size_t *bit);
+
+/* ---- alloc: bit allocation of one channel, TS 6.2.2 ---- */
+
+/*
+ * The pointers of a channel's 256 bins, from its exponents and its side information, not yet decoded.
+ *
+ * exponents   by bin; those from bin start up to bin end, which is not of the range, are looked at, and no others
+ * codes       sdcycod, fdcycod, sgaincod, dbpbcod, floorcod, fgaincod, csnroffst, fsnroffst, fscod
+ * has_leak    whether the channel begins with leaks, as the coupling channel does: cplfleak and cplsleak, which are
+ *             not looked at otherwise; a leak not given is 0, 0 when decoded
+ * segments    how many delta segments there are; of offset (deltoffst), length (deltlen) and ba (deltba) so many
+ *             entries are looked at
+ * high        pointers by the table of TS E.2.4.3.1 (hebap), else by that of TS 6.2.2.7 (bap)
+ * hearing     the hearing threshold: 150 entries of 0 to 4095, 50 bands for each fscod
+ * log_add     log addition: 256 entries of 0 to 64
+ *
+ * Refuses, in this order:
+ * 21 where hearing or log_add has another number of entries, or an entry above its largest;
+ * 11 where sdcycod, fdcycod, sgaincod or dbpbcod is above 3, floorcod or fgaincod above 7, csnroffst above 63,
+ *    fsnroffst above 15, fscod above 2; with has_leak, cplfleak or cplsleak above 7; segments above 8, or of one of
+ *    them the offset above 31, the length above 15, the ba above 7;
+ * where end is at most start the range is empty, and the call is taken;
+ * 6  where end is above 253;
+ * 8  where an exponent of the range is above 24.
+ * Taken: bap has the pointers of the range, and 0 outside it. Refused: bap is all 0, *bit is 0.
+ */
+uint8_t zela_allocate(const uint8_t exponents[256], size_t start, size_t end, const uint8_t codes[9], bool has_leak,
+                      uint8_t cplfleak, uint8_t cplsleak, uint8_t segments, const uint8_t offset[8],
+                      const uint8_t length[8], const uint8_t ba[8], bool high, const uint16_t *hearing,
+                      size_t hearing_len, const uint8_t *log_add, size_t log_add_len, uint8_t bap[256], size_t *bit);
 
 #ifdef __cplusplus
 }

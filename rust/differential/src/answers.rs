@@ -4,6 +4,7 @@ use crate::call::{hex, words_hex, Call};
 use crate::rule;
 use crate::rust;
 use std::fmt;
+use zelamodurk::alloc::BINS;
 use zelamodurk::syntax::{Element, Place};
 
 /// What a call answers and leaves.
@@ -15,7 +16,7 @@ pub struct Answer {
     pub bit: usize,
     /// The value, with 1 for true; 0 where refused.
     pub value: u32,
-    /// The bytes after a set; empty for the other functions.
+    /// The bytes after a set, the pointers of an allocation; empty for the other functions.
     pub after: Vec<u8>,
     /// The cursor's numbers after the call, where it has a cursor.
     pub place: Option<Place>,
@@ -40,6 +41,7 @@ impl Answer {
     fn refused(number: u8, call: &Call) -> Self {
         let after = match call {
             Call::Set { bytes, .. } => bytes.to_vec(),
+            Call::Allocate(_) => vec![0; BINS],
             _ => Vec::new(),
         };
         let log = call.standing().map(|from| from.log.to_vec());
@@ -99,12 +101,17 @@ impl fmt::Display for By {
     }
 }
 
-/// What document 01 asks of a call: a refusal of its own, where the Rust is not asked, and else the
-/// Rust's answer, which must have document 01's number.
+/// What document 01 asks of a call: a refusal of its own or an empty range past the bins, where the Rust
+/// is not asked, and else the Rust's answer, which must have document 01's number.
 pub fn expected(call: &Call) -> Result<Answer, String> {
     let number = rule::number(call);
     if rule::is_ports_own(call, number) {
         return Ok(Answer::refused(number, call));
+    }
+    if let Call::Allocate(given) = call {
+        if rule::is_empty_past_the_bins(given) {
+            return Ok(Answer::taken(0, vec![0; BINS]));
+        }
     }
     let answer = of_the_rust(call)?;
     if answer.number == number {

@@ -1,11 +1,15 @@
 //! A call of one of the functions that are compared.
 
+mod allocation;
+
 use std::borrow::Cow;
 use std::fmt;
 use zelamodurk::syntax::{Ask, Place, Role};
 
+pub use allocation::Allocation;
+
 /// The functions' names, in the order of [`Call::function`].
-pub const NAMES: [&str; 12] = [
+pub const NAMES: [&str; 13] = [
     "get",
     "set",
     "range_eq",
@@ -18,6 +22,7 @@ pub const NAMES: [&str; 12] = [
     "close_span",
     "check_tiling",
     "element_at",
+    "allocate",
 ];
 
 /// Bytes that a case lends or owns.
@@ -125,6 +130,7 @@ pub enum Call<'a> {
         count: usize,
         k: usize,
     },
+    Allocate(Box<Allocation<'a>>),
 }
 
 impl<'a> Call<'a> {
@@ -219,6 +225,11 @@ impl<'a> Call<'a> {
         Call::ElementAt { log, count, k }
     }
 
+    /// An allocation.
+    pub fn allocate(given: Allocation<'a>) -> Self {
+        Call::Allocate(Box::new(given))
+    }
+
     /// The function's place among [`NAMES`].
     pub fn function(&self) -> usize {
         match self {
@@ -234,6 +245,7 @@ impl<'a> Call<'a> {
             Call::CloseSpan { .. } => 9,
             Call::CheckTiling { .. } => 10,
             Call::ElementAt { .. } => 11,
+            Call::Allocate(_) => 12,
         }
     }
 
@@ -272,6 +284,7 @@ impl fmt::Display for Call<'_> {
             Call::RangeZero { x, a, n } => write!(f, " {} {a} {n}", hex(x)),
             Call::Crc16 { init, bytes } => write!(f, " {init} {}", hex(bytes)),
             Call::Zeros { init, n } => write!(f, " {init} {n}"),
+            Call::Allocate(given) => write!(f, " {given}"),
             _ => self.fmt_syntax(f),
         }
     }

@@ -2,6 +2,7 @@
 //! positions and widths near the largest `usize`. Every run makes the same cases.
 
 use crate::call::Call;
+use crate::channels;
 use crate::random::Random;
 use crate::scripts;
 
@@ -51,6 +52,7 @@ pub fn all(visit: &mut impl FnMut(&Call)) {
     random_crcs(visit);
     zero_runs(visit);
     scripts::all(visit);
+    channels::all(visit);
 }
 
 /// Every buffer of at most two bytes out of `patterns`.

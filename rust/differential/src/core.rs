@@ -1,10 +1,10 @@
 //! What the core answers, through the safe wrapper, on bytes and words with guards around them.
 
 use crate::answers::Answer;
-use crate::call::{Call, Standing};
+use crate::call::{Allocation, Call, Standing};
 use std::hint::black_box;
 use zelamodurk::syntax::{self, Place};
-use zelamodurk::{bits, crc, Refusal};
+use zelamodurk::{alloc, bits, crc, Refusal};
 
 /// How many guards stand before and after what is lent.
 const GUARD: usize = 16;
@@ -91,7 +91,7 @@ pub fn answer(call: &Call) -> Result<Answer, String> {
     }
 }
 
-/// What the functions of crc answer, and those of syntax.
+/// What the functions of crc answer, and those of alloc and syntax.
 fn crc_answer(call: &Call) -> Result<Answer, String> {
     match call {
         Call::Crc16 { init, bytes } => {
@@ -101,6 +101,7 @@ fn crc_answer(call: &Call) -> Result<Answer, String> {
             Ok(told(Ok(value.into())))
         }
         Call::Zeros { init, n } => Ok(told(Ok(crc::zeros(*init, *n).into()))),
+        Call::Allocate(given) => allocated(given),
         _ => syntax_answer(call),
     }
 }
@@ -174,6 +175,22 @@ fn logged(
     frame.untouched(&from.frame)?;
     answer.place = Some(place);
     answer.log = log.now()?.to_vec();
+    Ok(answer)
+}
+
+/// An allocation, with its tables lent. Where it is refused there are no pointers: the wrapper leaves the
+/// zeros out.
+fn allocated(given: &Allocation) -> Result<Answer, String> {
+    let (hearing, log_add) = (Room::of(&given.hearing), Room::of(&given.log_add));
+    let tables = alloc::Tables {
+        hearing: hearing.lent(),
+        log_add: log_add.lent(),
+    };
+    let found = alloc::allocate(&given.channel(), &tables);
+    hearing.untouched(&given.hearing)?;
+    log_add.untouched(&given.log_add)?;
+    let mut answer = told(found.map(|_| 0));
+    answer.after = found.unwrap_or([0; alloc::BINS]).to_vec();
     Ok(answer)
 }
 

@@ -8,6 +8,7 @@
 pub mod answers;
 pub mod call;
 pub mod cases;
+pub mod channels;
 pub mod core;
 pub mod random;
 pub mod record;

@@ -1,10 +1,15 @@
 //! Document 01's rules, written apart from the core.
 //!
 //! Bits: "The bits layer tests 6, then 1 for any range (position plus width) past either buffer."
-//! Syntax: "Reading one element tests 6, then 1, then 19."
+//! Syntax: "Reading one element tests 6, then 1, then 19." Allocation: [`channel`].
+
+pub mod channel;
 
 use crate::call::{Call, Standing};
 use zelamodurk::syntax::Place;
+
+pub use channel::is_empty_past_the_bins;
+use channel::{BAD_TABLES, CODE_PAST_TABLE, EXPONENT_OUTSIDE};
 
 /// A width above 32, where a width is what is asked for; ranges compared and spans may be wider. A
 /// limit, a count, a span's start or an element's place that is unfit.
@@ -51,14 +56,16 @@ pub fn number(call: &Call) -> u8 {
         Call::ElementAt { log, count, k } => {
             first(&[(BAD_ARGUMENT, *count > room(log) || k >= count)])
         }
+        Call::Allocate(given) => channel::number(given),
     }
 }
 
-/// Whether a refusal is "the port's own": 6, 19, and 1 in bits. So is 1 where position plus width
+/// Whether a refusal is "the port's own": 6, 19, 21, 1 in bits, and 8 and 11 in allocation. So is 1 where position plus width
 /// passes the largest number, since the Rust panics or wraps there.
 pub fn is_ports_own(call: &Call, number: u8) -> bool {
     match (number, call) {
-        (BAD_ARGUMENT | LOG_FULL, _) => true,
+        (BAD_ARGUMENT | LOG_FULL | BAD_TABLES, _) => true,
+        (EXPONENT_OUTSIDE | CODE_PAST_TABLE, Call::Allocate(_)) => true,
         (PAST_LIMIT, Call::ReadElement { from, ask }) => wraps(&from.place, ask.width),
         (PAST_LIMIT, Call::ReadRaw { place, width, .. }) => wraps(place, *width),
         (PAST_LIMIT, Call::Span { from, width, .. }) => wraps(&from.place, *width),

@@ -30,11 +30,13 @@ pub struct Asked {
 }
 
 #[cfg(oracle)]
+mod channel;
+#[cfg(oracle)]
 mod cursor;
 
 #[cfg(oracle)]
 mod there {
-    use super::{cursor, quiet, Asked};
+    use super::{channel, cursor, quiet, Asked};
     use crate::answers::Answer;
     use crate::call::Call;
     use crate::rule;
@@ -42,6 +44,9 @@ mod there {
 
     /// What the Rust does with a call, or none where it is not there.
     pub fn ask(call: &Call) -> Option<Asked> {
+        if let Call::Allocate(given) = call {
+            return Some(channel::ask(given));
+        }
         if let Some(asked) = cursor::ask(call) {
             return Some(asked);
         }
@@ -76,6 +81,8 @@ mod there {
 }
 
 #[cfg(oracle)]
+pub use channel::tables;
+#[cfg(oracle)]
 pub use cursor::{index, kinds, tiles};
 #[cfg(oracle)]
 pub use there::ask;
@@ -105,10 +112,15 @@ mod absent {
     pub fn kinds(_: Role) -> Option<[bool; 3]> {
         None
     }
+
+    /// Tables that are fit, where the Rust's HEARING and LOG_ADD are not there.
+    pub fn tables() -> (Vec<u16>, Vec<u8>) {
+        (vec![0; 150], vec![0; 256])
+    }
 }
 
 #[cfg(not(oracle))]
-pub use absent::{ask, index, kinds, tiles};
+pub use absent::{ask, index, kinds, tables, tiles};
 
 /// Panics caught, and not printed: the Rust's are what is looked for.
 #[cfg(oracle)]

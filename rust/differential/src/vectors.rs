@@ -97,6 +97,7 @@ fn told(call: &Call, answer: &Answer) -> String {
         Call::CloseSpan { .. } => format!("{number} {bit} {count} {log}"),
         Call::CheckTiling { .. } => number.to_string(),
         Call::ElementAt { .. } => format!("{number} {}", element_told(answer.element)),
+        Call::Allocate(_) => format!("{number} {}", hex(&answer.after)),
     }
 }
 

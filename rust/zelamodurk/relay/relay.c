@@ -4,8 +4,9 @@
  *
  * A call is the function's place in the table below and how many arguments follow, a byte each, and
  * then the arguments in the header's order: a kind (1 byte) and a number (8 bytes, low byte first),
- * which for lent bytes is how many there are, followed by themselves; a word of a log is four bytes. An
- * answer is the function's own (1 byte), and then all lent bytes as they are after the call, in order.
+ * which for lent bytes is how many there are, followed by themselves; a word of a log is four bytes, and
+ * a half two. An answer is the function's own (1 byte), and then all lent bytes as they are after the
+ * call, in order.
  */
 #include "zelamodurk.h"
 
@@ -16,15 +17,17 @@ extern void *realloc(void *room, size_t n);
 extern void *memcpy(void *to, const void *from, size_t n);
 extern void _exit(int status) __attribute__((noreturn));
 
-/* What an argument is: a number; lent bytes that pass as a pointer and their number; lent room that
- * passes as a pointer alone; a lent log that passes as a pointer and the number of its words. */
-enum kind { NUMBER, BYTES, ROOM, LOG };
-enum { WORDS = 16, LENT = 9, GUARD = 16, MARK = 0xA5 };
+/* What an argument is: a number; lent bytes that pass as a pointer and their number; lent room, or an
+ * array, that passes as a pointer alone; a lent log, or lent halves, that pass as a pointer and the number
+ * of their words. */
+enum kind { NUMBER, BYTES, ROOM, LOG, HALVES, KINDS };
+enum { WORDS = 18, LENT = 9, GUARD = 16, MARK = 0xA5 };
 
 /* On x86-64 each argument is a word of 8 bytes, in a register or on the stack, and a function reads
  * those that it has, so one type serves to call them all. */
 typedef uint64_t word;
-typedef uint8_t any(word, word, word, word, word, word, word, word, word, word, word, word, word, word, word, word);
+typedef uint8_t any(word, word, word, word, word, word, word, word, word, word, word, word, word, word, word, word,
+                    word, word);
 #define FUNCTION(name) (any *)(void (*)(void))name
 static any *const functions[] = {
     FUNCTION(zela_bits_get),        FUNCTION(zela_bits_set),         FUNCTION(zela_bits_range_eq),
@@ -32,6 +35,7 @@ static any *const functions[] = {
     FUNCTION(zela_role_is_drc),     FUNCTION(zela_role_is_checksum), FUNCTION(zela_role_is_span),
     FUNCTION(zela_read_element),    FUNCTION(zela_read_raw),         FUNCTION(zela_span),
     FUNCTION(zela_close_span),      FUNCTION(zela_check_tiling),     FUNCTION(zela_element_at),
+    FUNCTION(zela_allocate),
 };
 
 static uint8_t ahead[65536];
@@ -131,11 +135,23 @@ static void give_bytes(const struct lent *from) {
     give(from->at, from->len);
 }
 
+/* The size of what a kind's number counts. */
+static size_t size(enum kind kind) {
+    switch (kind) {
+    case LOG:
+        return sizeof(uint32_t);
+    case HALVES:
+        return sizeof(uint16_t);
+    default:
+        return 1;
+    }
+}
+
 static void relay(any *f) {
     word w[WORDS] = {0};
     size_t words = 0, lents = 0;
     for (uint8_t left = byte(WORDS); left > 0; left--) {
-        enum kind kind = byte(LOG + 1);
+        enum kind kind = byte(KINDS);
         word value = number();
         if (kind != NUMBER) {
             if (lents == LENT || words == WORDS) {
@@ -148,10 +164,11 @@ static void relay(any *f) {
             if (words == WORDS) {
                 _exit(1);
             }
-            w[words++] = kind == LOG ? value / sizeof(uint32_t) : value;
+            w[words++] = value / size(kind);
         }
     }
-    uint8_t answer = f(w[0], w[1], w[2], w[3], w[4], w[5], w[6], w[7], w[8], w[9], w[10], w[11], w[12], w[13], w[14], w[15]);
+    uint8_t answer = f(w[0], w[1], w[2], w[3], w[4], w[5], w[6], w[7], w[8], w[9], w[10], w[11], w[12], w[13], w[14],
+                       w[15], w[16], w[17]);
     give(&answer, 1);
     for (size_t i = 0; i < lents; i++) {
         give_bytes(&lent[i]);

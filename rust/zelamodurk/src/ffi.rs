@@ -7,8 +7,9 @@
 //! between calls.
 #![allow(unsafe_code)]
 
+use crate::alloc::{Channel, Plain, Tables, BINS};
 use crate::refusal::{outcome, Refusal};
-use crate::syntax::{Ask, Element, Place, Role};
+use crate::syntax::{Ask, Element, Place, Role, Span};
 
 extern "C" {
     fn zela_bits_get(
@@ -123,6 +124,26 @@ extern "C" {
         pos: *mut u32,
         width: *mut u32,
         value: *mut u32,
+        bit: *mut usize,
+    ) -> u8;
+    fn zela_allocate(
+        exponents: *const u8,
+        start: usize,
+        end: usize,
+        codes: *const u8,
+        has_leak: bool,
+        cplfleak: u8,
+        cplsleak: u8,
+        segments: u8,
+        offset: *const u8,
+        length: *const u8,
+        ba: *const u8,
+        high: bool,
+        hearing: *const u16,
+        hearing_len: usize,
+        log_add: *const u8,
+        log_add_len: usize,
+        bap: *mut u8,
         bit: *mut usize,
     ) -> u8;
 }
@@ -260,30 +281,39 @@ pub fn read_raw(frame: &[u8], place: &mut Place, width: usize) -> Result<u32, Re
     outcome(number, bit, value)
 }
 
-#[inline]
-pub fn span(
-    frame: &[u8],
-    log: &mut [u32],
-    place: &mut Place,
+/// `zela_span` and `zela_close_span`, which take the position as room and as a number.
+type Logs<P> = unsafe extern "C" fn(
+    frame: *const u8,
+    frame_len: usize,
+    log: *mut u32,
+    log_words: usize,
+    pos: P,
+    limit: usize,
+    block: i8,
+    count: *mut usize,
     name: u32,
-    role: Role,
-    width: usize,
-) -> Result<(), Refusal> {
+    role: u32,
+    last: usize,
+    bit: *mut usize,
+) -> u8;
+
+#[inline]
+fn logged<P>(logs: Logs<P>, at: Span, pos: P, last: usize) -> Result<(), Refusal> {
     let mut bit = 0;
     // SAFETY: as the module says.
     let number = unsafe {
-        zela_span(
-            frame.as_ptr(),
-            frame.len(),
-            log.as_mut_ptr(),
-            log.len(),
-            &mut place.pos,
-            place.limit,
-            place.block,
-            &mut place.count,
-            name,
-            role.word(),
-            width,
+        logs(
+            at.frame.as_ptr(),
+            at.frame.len(),
+            at.log.as_mut_ptr(),
+            at.log.len(),
+            pos,
+            at.limit,
+            at.block,
+            at.count,
+            at.name,
+            at.role.word(),
+            last,
             &mut bit,
         )
     };
@@ -291,33 +321,13 @@ pub fn span(
 }
 
 #[inline]
-pub fn close_span(
-    frame: &[u8],
-    log: &mut [u32],
-    place: &mut Place,
-    name: u32,
-    role: Role,
-    start: usize,
-) -> Result<(), Refusal> {
-    let mut bit = 0;
-    // SAFETY: as the module says.
-    let number = unsafe {
-        zela_close_span(
-            frame.as_ptr(),
-            frame.len(),
-            log.as_mut_ptr(),
-            log.len(),
-            place.pos,
-            place.limit,
-            place.block,
-            &mut place.count,
-            name,
-            role.word(),
-            start,
-            &mut bit,
-        )
-    };
-    outcome(number, bit, ())
+pub fn span(at: Span, pos: &mut usize, width: usize) -> Result<(), Refusal> {
+    logged(zela_span, at, pos, width)
+}
+
+#[inline]
+pub fn close_span(at: Span, pos: usize, start: usize) -> Result<(), Refusal> {
+    logged(zela_close_span, at, pos, start)
 }
 
 #[inline]
@@ -359,4 +369,34 @@ pub fn element_at(log: &[u32], count: usize, k: usize) -> Result<Element, Refusa
         value,
     };
     outcome(number, bit, element)
+}
+
+#[inline]
+pub fn allocate(channel: &Channel, tables: &Tables) -> Result<[u8; BINS], Refusal> {
+    let plain = Plain::of(channel);
+    let (mut bap, mut bit) = ([0; BINS], 0);
+    // SAFETY: as the module says; each array has the length that the header says.
+    let number = unsafe {
+        zela_allocate(
+            channel.exponents.as_ptr(),
+            channel.start.0,
+            channel.end.0,
+            plain.codes.as_ptr(),
+            plain.has_leak,
+            plain.cplfleak,
+            plain.cplsleak,
+            plain.segments,
+            plain.offset.as_ptr(),
+            plain.length.as_ptr(),
+            plain.ba.as_ptr(),
+            plain.high,
+            tables.hearing.as_ptr(),
+            tables.hearing.len(),
+            tables.log_add.as_ptr(),
+            tables.log_add.len(),
+            bap.as_mut_ptr(),
+            &mut bit,
+        )
+    };
+    outcome(number, bit, bap)
 }

@@ -13,6 +13,7 @@
 //! assert_eq!(bits::get(&frame, 0, 17).unwrap_err().why, Why::PastLimit);
 //! ```
 
+pub mod alloc;
 pub mod bits;
 pub mod crc;
 #[cfg_attr(not(target_arch = "x86_64"), allow(dead_code))]

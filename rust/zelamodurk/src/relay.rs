@@ -2,8 +2,9 @@
 //! own under the kit's emulator, as `rt` runs programs there, and each call is sent to it
 //! (`relay/relay.c`). This serves tests. It is slow, and its times say nothing.
 
+use crate::alloc::{Channel, Plain, Tables, BINS};
 use crate::refusal::{outcome, Refusal};
-use crate::syntax::{Ask, Element, Place, Role};
+use crate::syntax::{Ask, Element, Place, Role, Span};
 use std::borrow::Cow;
 use std::cell::RefCell;
 use std::io::{self, BufReader, Read, Write};
@@ -31,6 +32,7 @@ enum Function {
     CloseSpan,
     CheckTiling,
     ElementAt,
+    Allocate,
 }
 
 /// An argument of a call.
@@ -40,15 +42,19 @@ enum Argument<'a> {
     Bytes(&'a [u8]),
     /// Bytes lent that the call may change.
     Changed(&'a mut [u8]),
-    /// Room for a number, which passes without its length.
+    /// An array lent for reading, which passes without its length.
+    Array(&'a [u8]),
+    /// Room for a number or an array, which passes without its length.
     Room(&'a mut [u8]),
     /// A log lent for reading.
     Log(&'a [u32]),
     /// A log that the call may write to.
     ChangedLog(&'a mut [u32]),
+    /// Words of 16 bits lent for reading.
+    Halves(&'a [u16]),
 }
 
-use Argument::{Bytes, Changed, ChangedLog, Log, Number, Room};
+use Argument::{Array, Bytes, Changed, ChangedLog, Halves, Log, Number, Room};
 
 impl Argument<'_> {
     /// The argument as `relay.c` reads it: its kind, its number or its length, its bytes.
@@ -60,9 +66,11 @@ impl Argument<'_> {
             }
             Bytes(bytes) => (1, Cow::Borrowed(bytes)),
             Changed(bytes) => (1, Cow::Borrowed(bytes)),
+            Array(bytes) => (2, Cow::Borrowed(bytes)),
             Room(room) => (2, Cow::Borrowed(room)),
             Log(log) => (3, Cow::Owned(log_bytes(log))),
             ChangedLog(log) => (3, Cow::Owned(log_bytes(log))),
+            Halves(halves) => (4, Cow::Owned(half_bytes(halves))),
         };
         request.push(kind);
         request.extend((bytes.len() as u64).to_le_bytes());
@@ -73,10 +81,11 @@ impl Argument<'_> {
     fn take(&mut self, from: &mut impl Read) -> io::Result<()> {
         match self {
             Number(_) => Ok(()),
-            Bytes(bytes) => take_unchanged(bytes, from),
+            Bytes(bytes) | Array(bytes) => take_unchanged(bytes, from),
             Changed(bytes) => from.read_exact(bytes),
             Room(room) => from.read_exact(room),
             Log(log) => take_unchanged(&log_bytes(log), from),
+            Halves(halves) => take_unchanged(&half_bytes(halves), from),
             ChangedLog(log) => {
                 let mut after = log_bytes(log);
                 from.read_exact(&mut after)?;
@@ -93,6 +102,11 @@ impl Argument<'_> {
 /// A log's words as they stand in memory on x86-64.
 fn log_bytes(log: &[u32]) -> Vec<u8> {
     log.iter().flat_map(|word| word.to_le_bytes()).collect()
+}
+
+/// The same of words of 16 bits.
+fn half_bytes(halves: &[u16]) -> Vec<u8> {
+    halves.iter().flat_map(|half| half.to_le_bytes()).collect()
 }
 
 /// Takes back bytes that a call may only read.
@@ -317,59 +331,36 @@ pub fn read_raw(frame: &[u8], place: &mut Place, width: usize) -> Result<u32, Re
     outcome(number, usize::from_le_bytes(bit), u32::from_le_bytes(value))
 }
 
-pub fn span(
-    frame: &[u8],
-    log: &mut [u32],
-    place: &mut Place,
-    name: u32,
-    role: Role,
-    width: usize,
-) -> Result<(), Refusal> {
-    let (mut pos, mut count) = (place.pos.to_le_bytes(), place.count.to_le_bytes());
+/// Logs a span by one of two functions, which take the position as room and as a number.
+fn logged(function: Function, at: Span, pos: Argument, last: usize) -> Result<(), Refusal> {
+    let mut count = at.count.to_le_bytes();
     let mut bit = [0; 8];
     let lent = &mut [
-        Bytes(frame),
-        ChangedLog(log),
-        Room(&mut pos),
-        size(place.limit),
-        signed(place.block),
+        Bytes(at.frame),
+        ChangedLog(at.log),
+        pos,
+        size(at.limit),
+        signed(at.block),
         Room(&mut count),
-        Number(name.into()),
-        Number(role.word().into()),
-        size(width),
+        Number(at.name.into()),
+        Number(at.role.word().into()),
+        size(last),
         Room(&mut bit),
     ];
-    let number = call(Function::Span, lent);
-    place.pos = usize::from_le_bytes(pos);
-    place.count = usize::from_le_bytes(count);
+    let number = call(function, lent);
+    *at.count = usize::from_le_bytes(count);
     outcome(number, usize::from_le_bytes(bit), ())
 }
 
-pub fn close_span(
-    frame: &[u8],
-    log: &mut [u32],
-    place: &mut Place,
-    name: u32,
-    role: Role,
-    start: usize,
-) -> Result<(), Refusal> {
-    let mut count = place.count.to_le_bytes();
-    let mut bit = [0; 8];
-    let lent = &mut [
-        Bytes(frame),
-        ChangedLog(log),
-        size(place.pos),
-        size(place.limit),
-        signed(place.block),
-        Room(&mut count),
-        Number(name.into()),
-        Number(role.word().into()),
-        size(start),
-        Room(&mut bit),
-    ];
-    let number = call(Function::CloseSpan, lent);
-    place.count = usize::from_le_bytes(count);
-    outcome(number, usize::from_le_bytes(bit), ())
+pub fn span(at: Span, pos: &mut usize, width: usize) -> Result<(), Refusal> {
+    let mut room = pos.to_le_bytes();
+    let done = logged(Function::Span, at, Room(&mut room), width);
+    *pos = usize::from_le_bytes(room);
+    done
+}
+
+pub fn close_span(at: Span, pos: usize, start: usize) -> Result<(), Refusal> {
+    logged(Function::CloseSpan, at, size(pos), start)
 }
 
 pub fn check_tiling(log: &[u32], count: usize, total: usize) -> Result<(), Refusal> {
@@ -406,4 +397,29 @@ pub fn element_at(log: &[u32], count: usize, k: usize) -> Result<Element, Refusa
         value: u32::from_le_bytes(value),
     };
     outcome(number, usize::from_le_bytes(bit), element)
+}
+
+pub fn allocate(channel: &Channel, tables: &Tables) -> Result<[u8; BINS], Refusal> {
+    let plain = Plain::of(channel);
+    let (mut bap, mut bit) = ([0; BINS], [0; 8]);
+    let lent = &mut [
+        Array(channel.exponents),
+        size(channel.start.0),
+        size(channel.end.0),
+        Array(&plain.codes),
+        Number(plain.has_leak.into()),
+        Number(plain.cplfleak.into()),
+        Number(plain.cplsleak.into()),
+        Number(plain.segments.into()),
+        Array(&plain.offset),
+        Array(&plain.length),
+        Array(&plain.ba),
+        Number(plain.high.into()),
+        Halves(tables.hearing),
+        Bytes(tables.log_add),
+        Room(&mut bap),
+        Room(&mut bit),
+    ];
+    let number = call(Function::Allocate, lent);
+    outcome(number, usize::from_le_bytes(bit), bap)
 }

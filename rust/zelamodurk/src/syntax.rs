@@ -212,6 +212,39 @@ impl Element {
     }
 }
 
+/// What both calls that log a span are given besides the position and their last number.
+pub(crate) struct Span<'a> {
+    pub frame: &'a [u8],
+    pub log: &'a mut [u32],
+    pub limit: usize,
+    pub block: i8,
+    pub count: &'a mut usize,
+    pub name: u32,
+    pub role: Role,
+}
+
+impl<'a> Span<'a> {
+    /// With the position, which one of the calls moves.
+    fn of(
+        frame: &'a [u8],
+        log: &'a mut [u32],
+        place: &'a mut Place,
+        name: u32,
+        role: Role,
+    ) -> (Self, &'a mut usize) {
+        let span = Span {
+            frame,
+            log,
+            limit: place.limit,
+            block: place.block,
+            count: &mut place.count,
+            name,
+            role,
+        };
+        (span, &mut place.pos)
+    }
+}
+
 /// Reads one element at the cursor, and logs it. The cursor then stands after it.
 ///
 /// # Errors
@@ -253,7 +286,8 @@ pub fn span(
     role: Role,
     width: usize,
 ) -> Result<(), Refusal> {
-    core::span(frame, log, place, name, role, width)
+    let (at, pos) = Span::of(frame, log, place, name, role);
+    core::span(at, pos, width)
 }
 
 /// Logs the bits from `start` to the cursor, which stays, as one element with index -1 and value 0.
@@ -270,7 +304,8 @@ pub fn close_span(
     role: Role,
     start: usize,
 ) -> Result<(), Refusal> {
-    core::close_span(frame, log, place, name, role, start)
+    let (at, pos) = Span::of(frame, log, place, name, role);
+    core::close_span(at, *pos, start)
 }
 
 /// Whether the first `count` elements of the log tile the bits below `total`: the first starts at 0,
