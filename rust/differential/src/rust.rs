@@ -81,7 +81,7 @@ mod there {
 }
 
 #[cfg(oracle)]
-pub use channel::tables;
+pub use channel::{pointers_by, tables};
 #[cfg(oracle)]
 pub use cursor::{index, kinds, tiles};
 #[cfg(oracle)]
@@ -90,7 +90,7 @@ pub use there::ask;
 #[cfg(not(oracle))]
 mod absent {
     use super::Asked;
-    use crate::call::Call;
+    use crate::call::{Allocation, Call};
     use zelamodurk::syntax::Role;
 
     /// What the Rust does with a call, or none where it is not there.
@@ -113,6 +113,11 @@ mod absent {
         None
     }
 
+    /// The Rust's pointers with other exponents; none where it panics, or is not there.
+    pub fn pointers_by(_: &Allocation, _: &[i16]) -> Option<Vec<u8>> {
+        None
+    }
+
     /// Tables that are fit, where the Rust's HEARING and LOG_ADD are not there.
     pub fn tables() -> (Vec<u16>, Vec<u8>) {
         (vec![0; 150], vec![0; 256])
@@ -120,7 +125,7 @@ mod absent {
 }
 
 #[cfg(not(oracle))]
-pub use absent::{ask, index, kinds, tables, tiles};
+pub use absent::{ask, index, kinds, pointers_by, tables, tiles};
 
 /// Panics caught, and not printed: the Rust's are what is looked for.
 #[cfg(oracle)]

@@ -2,8 +2,9 @@
 //! The Rust's half holds in the profile that this is built in; `./test` builds for release.
 #![forbid(unsafe_code)]
 
-use differential::call::{Call, Standing};
+use differential::call::{Allocation, Call, Standing};
 use differential::{core, rust};
+use zelamodurk::alloc::{Codes, Pointers, Segment, BINS};
 use zelamodurk::syntax::{Ask, Place, Role};
 
 const MAX: usize = usize::MAX;
@@ -62,6 +63,9 @@ fn core_refuses(call: &Call, number: u8) {
     }
     if let Some(from) = call.standing() {
         assert_eq!(answer.log, *from.log, "a refused call wrote to the log");
+    }
+    if let Call::Allocate(_) = call {
+        assert_eq!(answer.after, [0; BINS], "a refused call has pointers");
     }
 }
 
@@ -406,4 +410,154 @@ fn tiling_whose_end_overflows() {
     let end = 5 + u32::MAX as usize;
     let call = Call::check_tiling(&log[..], 2, end);
     assert_eq!(core::answer(&call).unwrap().number, 0);
+}
+
+/// A channel of bin 0 alone that is taken, with pointer 5, changed in one way.
+fn channel(change: impl FnOnce(&mut Allocation)) -> Call<'static> {
+    let (hearing, log_add) = rust::tables();
+    let mut given = Allocation {
+        exponents: [0; BINS],
+        start: 0,
+        end: 1,
+        codes: Codes::of_bytes([0, 0, 0, 0, 0, 0, 20, 0, 0]),
+        leak: None,
+        delta: Vec::new(),
+        pointers: Pointers::Bap,
+        hearing: hearing.into(),
+        log_add: log_add.into(),
+    };
+    change(&mut given);
+    Call::allocate(given)
+}
+
+/// The pointer of bin 0, and 0 in all others.
+fn pointer(first: u8) -> Rust {
+    let mut pointers = vec![0; BINS];
+    pointers[0] = first;
+    Rust::Leaves(pointers)
+}
+
+fn segment(offset: u8, len: u8, ba: u8) -> Segment {
+    Segment { offset, len, ba }
+}
+
+#[test]
+fn a_channel_of_one_bin_is_taken_by_both() {
+    let call = channel(|_| ());
+    assert_eq!(core::answer(&call).unwrap().number, 0);
+    rust_does(&call, &pointer(5));
+}
+
+#[test]
+fn codes_past_their_tables() {
+    let changes: [fn(&mut Codes); 7] = [
+        |codes| codes.sdcycod = 4,
+        |codes| codes.fdcycod = 4,
+        |codes| codes.sgaincod = 4,
+        |codes| codes.dbpbcod = 4,
+        |codes| codes.floorcod = 8,
+        |codes| codes.fgaincod = 8,
+        |codes| codes.fscod = 3,
+    ];
+    for change in changes {
+        let call = channel(|given| change(&mut given.codes));
+        differ(&call, Rust::Panics, 11);
+    }
+}
+
+#[test]
+fn offsets_past_their_tables() {
+    let call = channel(|given| given.codes.csnroffst = 64);
+    differ(&call, pointer(15), 11);
+    let call = channel(|given| given.codes.fsnroffst = 16);
+    differ(&call, pointer(6), 11);
+}
+
+#[test]
+fn leaks_past_their_tables() {
+    for leak in [(8, 0), (0, 8)] {
+        differ(&channel(|given| given.leak = Some(leak)), pointer(5), 11);
+    }
+}
+
+#[test]
+fn segments_past_their_tables() {
+    for (past, first) in [((32, 1, 0), 5), ((0, 16, 0), 9), ((0, 1, 8), 0)] {
+        let (offset, len, ba) = past;
+        let call = channel(|given| given.delta = vec![segment(offset, len, ba)]);
+        differ(&call, pointer(first), 11);
+    }
+    let call = channel(|given| given.delta = vec![segment(0, 0, 0); 9]);
+    differ(&call, pointer(5), 11);
+}
+
+#[test]
+fn a_code_past_its_table_with_an_empty_range() {
+    let call = channel(|given| {
+        given.codes.fscod = 3;
+        given.end = 0;
+    });
+    differ(&call, pointer(0), 11);
+}
+
+#[test]
+fn ranges_that_end_above_253() {
+    for (start, end) in [(0, 254), (253, 254), (0, MAX)] {
+        let call = channel(|given| (given.start, given.end) = (start, end));
+        differ(&call, Rust::Panics, 6);
+    }
+}
+
+#[test]
+fn exponents_above_24() {
+    for exponent in [25, 255] {
+        let call = channel(|given| given.exponents[0] = exponent);
+        differ(&call, pointer(0), 8);
+    }
+    // Beside the range they are not looked at by either.
+    let call = channel(|given| given.exponents[1] = 25);
+    assert_eq!(core::answer(&call).unwrap().number, 0);
+    rust_does(&call, &pointer(5));
+}
+
+#[test]
+fn exponents_that_are_no_bytes() {
+    // The Rust takes numbers of 16 bits, and as many as there are; the core is handed 256 bytes.
+    let Call::Allocate(given) = channel(|_| ()) else {
+        unreachable!()
+    };
+    if rust::PRESENT {
+        let first = |exp: &[i16]| rust::pointers_by(&given, exp);
+        assert_eq!(first(&[0]), Some(vec![5]));
+        assert_eq!(first(&[-1]), Some(vec![5]));
+        assert_eq!(first(&[i16::MAX]), Some(vec![0]));
+        assert_eq!(first(&[]), None);
+    }
+}
+
+#[test]
+fn empty_ranges_past_the_bins() {
+    // The Rust answers as many zeros as the start says, and panics where no memory holds them.
+    for (start, does) in [(257, Rust::Leaves(vec![0; 257])), (MAX, Rust::Panics)] {
+        let call = channel(|given| (given.start, given.end) = (start, 0));
+        rust_does(&call, &does);
+        let answer = core::answer(&call).unwrap();
+        assert_eq!((answer.number, answer.after), (0, vec![0; BINS]));
+    }
+}
+
+#[test]
+fn tables_that_are_unfit() {
+    // The Rust has its own.
+    let changes: [fn(&mut Allocation); 6] = [
+        |given| given.hearing.to_mut().truncate(149),
+        |given| given.hearing.to_mut().push(0),
+        |given| given.hearing.to_mut()[149] = 4096,
+        |given| given.log_add.to_mut().truncate(255),
+        |given| given.log_add.to_mut().push(0),
+        |given| given.log_add.to_mut()[255] = 65,
+    ];
+    for change in changes {
+        differ(&channel(change), pointer(5), 21);
+    }
 }

@@ -12,7 +12,7 @@ use zelamodurk::alloc::{Pointers, Segment, BINS};
 /// What the Rust does with an allocation. It answers the bins below the range's end; those after them
 /// are 0.
 pub fn ask(given: &Allocation) -> Asked {
-    let found = quiet::caught(|| pointers(given));
+    let found = pointers_by(given, &given.exponents.map(i16::from));
     let panicked = found.is_none();
     let mut after = found.unwrap_or_default();
     after.resize(after.len().max(BINS), 0);
@@ -23,7 +23,7 @@ pub fn ask(given: &Allocation) -> Asked {
     }
 }
 
-fn pointers(given: &Allocation) -> Vec<u8> {
+fn pointers(given: &Allocation, exp: &[i16]) -> Vec<u8> {
     let [bai @ .., fgaincod, csnroffst, fsnroffst, fscod] = given.codes.bytes();
     let state = AllocState {
         bai: Some(bai),
@@ -32,10 +32,9 @@ fn pointers(given: &Allocation) -> Vec<u8> {
     let params = state
         .params(fscod.into())
         .expect("parameters that are sent");
-    let exp: Vec<i16> = given.exponents.iter().map(|e| i16::from(*e)).collect();
     let leak = |code: u8| (i32::from(code) << 8) + 768;
     let channel = Channel {
-        exp: &exp,
+        exp,
         start: given.start,
         end: given.end,
         fgain: i32::from(FAST_GAIN[usize::from(fgaincod)]),
@@ -56,6 +55,12 @@ fn segment(segment: &Segment) -> DeltaSeg {
         len: segment.len,
         ba: segment.ba,
     }
+}
+
+/// The Rust's pointers with other exponents, which it takes as numbers of 16 bits and in any number; none
+/// where it panics.
+pub fn pointers_by(given: &Allocation, exp: &[i16]) -> Option<Vec<u8>> {
+    quiet::caught(|| pointers(given, exp))
 }
 
 /// The Rust's tables as they are lent, HEARING and LOG_ADD.
