@@ -3,12 +3,9 @@
 // A function answers 0 where the call is taken, or the refusal's number. Values and the refusal's bit go into room that the
 // caller lends; a value is 0 where the call is refused, and the bit is 0 where it is taken. A function that never refuses has
 // no room for a bit. include/zelamodurk.h says the same for each function in C's terms.
-use tables::Bin;
 use alloc::Codes;
-use tables::Delta;
 use alloc::Ended;
 use alloc::Leak;
-use tables::Pointers;
 use bits::Got;
 use bits::Judged;
 use bits::Put;
@@ -16,6 +13,9 @@ use refusal::Refusal;
 use syntax::Ask;
 use syntax::Found;
 use syntax::Place;
+use tables::Bin;
+use tables::Delta;
+use tables::Pointers;
 ghost use mathlib.Core.Path.{_≡_};
 ghost use mathlib.Core.Bool.{false};
 ghost use lib.ListN.{length, replicate};

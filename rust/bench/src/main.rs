@@ -6,6 +6,7 @@ mod rust;
 
 use std::hint::black_box;
 use std::time::Instant;
+use zelamodurk::alloc::{self, Bin, Channel, Codes, Pointers, Tables, BINS};
 use zelamodurk::syntax::{self, names, Place, Role};
 use zelamodurk::{bits, crc};
 
@@ -19,6 +20,19 @@ const RANGE: usize = 32_000;
 /// The elements of a log, some as many as a frame has, and the width of each.
 const ELEMENTS: usize = 700;
 const WIDTH: usize = 5;
+/// The end of the last band, and codes as encoders send them.
+const END: usize = 253;
+const CODES: Codes = Codes {
+    sdcycod: 2,
+    fdcycod: 1,
+    sgaincod: 1,
+    dbpbcod: 2,
+    floorcod: 7,
+    fgaincod: 4,
+    csnroffst: 20,
+    fsnroffst: 5,
+    fscod: 0,
+};
 
 fn main() {
     let (buffer, calls) = inputs();
@@ -32,6 +46,7 @@ fn main() {
     range_eq(&buffer);
     read_element(&buffer);
     check_tiling(&buffer);
+    allocate(&buffer);
     if zelamodurk::EMULATED {
         println!("the core ran under the kit's emulator here: these times say nothing");
     }
@@ -225,6 +240,46 @@ fn check_tiling(frame: &[u8]) {
         },
         || {
             black_box(black_box(&reader).tiles(total));
+        },
+    );
+}
+
+/// Exponents in steps of up to 2, as a stream has them.
+fn exponents(bytes: &[u8]) -> [u8; BINS] {
+    let mut exponent = 8;
+    std::array::from_fn(|bin| {
+        exponent = (exponent + bytes[bin] % 5).saturating_sub(2).min(24);
+        exponent
+    })
+}
+
+/// All bins of a full-bandwidth channel, the codes not yet decoded on either side.
+fn allocate(bytes: &[u8]) {
+    let exponents = exponents(bytes);
+    let channel = Channel {
+        exponents: &exponents,
+        start: Bin(0),
+        end: Bin(END),
+        codes: CODES,
+        leak: None,
+        delta: &[],
+        pointers: Pointers::Bap,
+    };
+    let (hearing, log_add) = rust::tables();
+    let tables = Tables {
+        hearing: &hearing,
+        log_add: &log_add,
+    };
+    let rusts = rust::Channel::new(&exponents[..END]);
+    measure(
+        "allocation of 253 bins",
+        1.0,
+        1,
+        || {
+            let _ = black_box(alloc::allocate(black_box(&channel), &tables));
+        },
+        || {
+            black_box(black_box(&rusts).allocate(CODES));
         },
     );
 }

@@ -6,8 +6,11 @@ pub const PRESENT: bool = cfg!(oracle);
 
 #[cfg(oracle)]
 mod called {
+    use oracle::blocks::AllocState;
     use oracle::syntax::{check_contiguous, Cursor, Role};
-    use oracle::{bits, crc};
+    use oracle::tables::{BAP, FAST_GAIN, HEARING, LOG_ADD};
+    use oracle::{alloc, bits, crc};
+    use zelamodurk::alloc::Codes;
 
     /// The Rust's cursor over a frame, with room for more fields than are logged.
     pub struct Reader<'a>(Cursor<'a>);
@@ -34,6 +37,42 @@ mod called {
         }
     }
 
+    /// A channel's exponents as the Rust takes them.
+    pub struct Channel(Vec<i16>);
+
+    impl Channel {
+        pub fn new(exponents: &[u8]) -> Self {
+            Channel(exponents.iter().map(|e| i16::from(*e)).collect())
+        }
+
+        /// Decodes the codes as the Rust's allocation of a block does, and allocates.
+        #[inline(never)]
+        pub fn allocate(&self, codes: Codes) -> Option<Vec<u8>> {
+            let [bai @ .., fgaincod, csnroffst, fsnroffst, fscod] = codes.bytes();
+            let state = AllocState {
+                bai: Some(bai),
+                ..AllocState::default()
+            };
+            let channel = alloc::Channel {
+                exp: &self.0,
+                start: 0,
+                end: self.0.len(),
+                fgain: i32::from(FAST_GAIN[usize::from(fgaincod)]),
+                snroffset: (((i32::from(csnroffst) - 15) << 4) + i32::from(fsnroffst)) << 2,
+                leak: None,
+                delta: &[],
+            };
+            let params = state.params(fscod.into()).ok()?;
+            Some(alloc::allocate(&channel, &params, &BAP))
+        }
+    }
+
+    /// HEARING and LOG_ADD, to be lent.
+    pub fn tables() -> (Vec<u16>, Vec<u8>) {
+        let hearing = HEARING.iter().map(|entry| *entry as u16).collect();
+        (hearing, LOG_ADD.iter().map(|entry| *entry as u8).collect())
+    }
+
     #[inline(never)]
     pub fn get(bytes: &[u8], pos: usize, n: usize) -> u32 {
         bits::get(bytes, pos, n)
@@ -57,6 +96,25 @@ mod called {
 
 #[cfg(not(oracle))]
 mod called {
+    use zelamodurk::alloc::Codes;
+
+    pub struct Channel;
+
+    impl Channel {
+        pub fn new(_: &[u8]) -> Self {
+            Channel
+        }
+
+        pub fn allocate(&self, _: Codes) -> Option<Vec<u8>> {
+            None
+        }
+    }
+
+    /// Tables that are fit.
+    pub fn tables() -> (Vec<u16>, Vec<u8>) {
+        (vec![0; 150], vec![0; 256])
+    }
+
     pub struct Reader;
 
     impl Reader {
@@ -90,4 +148,4 @@ mod called {
     }
 }
 
-pub use called::{crc16, get, range_eq, set, Reader};
+pub use called::{crc16, get, range_eq, set, tables, Channel, Reader};
