@@ -1,13 +1,10 @@
-// A file's lines. Comments begin with `#`, and empty lines are passed over. Any other line is an entry: the function's name,
-// its fields and who decided, `rust`, `panics` or `differs`, with one space between.
+// A file's lines. Comments begin with `#`, and empty lines are passed over. Any other line is an entry.
+use crate::entries;
 use crate::functions;
+use crate::names;
 use crate::report;
 use crate::tally;
-use crate::words;
 use text::Rest;
-
-// A longer line cannot be read.
-const LONGEST: usize = 600;
 
 // Who decided, in the order of their counts in `tally`.
 const DECIDERS: [u8; 19] = *b"rust panics differs";
@@ -36,11 +33,11 @@ fn tell(name: &[u8], number: u64, became: usize, is_told: bool) -> bool {
         return true;
     }
     if became == tally::DIFFER {
-        report::differs(name, number);
+        report::line(name, number, b": answers differ\n");
         return true;
     }
     if became == tally::UNREAD {
-        report::unread(name, number);
+        report::line(name, number, b": cannot be read\n");
         return true;
     }
     false
@@ -48,9 +45,6 @@ fn tell(name: &[u8], number: u64, became: usize, is_told: bool) -> bool {
 
 // Replays a line, and answers what it became.
 fn replay(line: &[u8], tally: &mut [u64]) -> usize {
-    if LONGEST < line.len() {
-        return tally::UNREAD;
-    }
     if line.len() == 0 {
         return tally::PASSED;
     }
@@ -67,7 +61,7 @@ fn replay_entry(line: &[u8], tally: &mut [u64]) -> usize {
     if functions::COUNT <= at {
         return tally::UNREAD;
     }
-    let ran = functions::run(
+    let ran = entries::run(
         at,
         line,
         Rest {
@@ -98,5 +92,5 @@ fn decided_by(line: &[u8], rest: Rest) -> usize {
     if end < line.len() {
         return NOBODY;
     }
-    words::place(&DECIDERS, &line[from..end])
+    names::place(&DECIDERS, &line[from..end])
 }

@@ -1,14 +1,20 @@
 // Replays recorded answers of the Rust against the proved functions, and says how many agree.
 //
-// A file of data/ holds an entry a line: `lines` says what a line is, `bit_entries`, `crc_entries` and the library
-// `syntax_entries` what each function's entry holds. A function more is a name and an arm in `functions`, and its runner; a
-// file more is a call more in `main`.
+// A file of data/ holds an entry a line: `entries` says what a line is. A function more is a name and an arm in
+// `functions`, and its entry in the module of its layer; a file more is a call more in `main`.
+mod alloc_entries;
 mod bit_entries;
 mod crc_entries;
+mod entries;
 mod functions;
 mod lines;
+mod low;
+mod names;
+mod numbers;
 mod report;
+mod syntax_entries;
 mod tally;
+mod told;
 mod words;
 
 fn main() {
@@ -16,6 +22,7 @@ fn main() {
     replay_file(b"bits.txt", &mut tally);
     replay_file(b"crc.txt", &mut tally);
     replay_file(b"syntax.txt", &mut tally);
+    replay_file(b"alloc.txt", &mut tally);
     report::summary(&tally);
 }
 
@@ -23,7 +30,7 @@ fn main() {
 fn replay_file(name: &[u8], tally: &mut [u64]) {
     let fd = os::open_read(name);
     if fd < 0 {
-        report::unopened(name);
+        report::file(name, b": cannot be opened\n");
         tally::count(tally, tally::UNREAD_FILES);
         return;
     }
@@ -32,7 +39,7 @@ fn replay_file(name: &[u8], tally: &mut [u64]) {
     let is_whole = is_at_end(fd);
     libc::close(fd);
     if !is_whole {
-        report::cut(name);
+        report::file(name, b": cannot be read, or is larger than 65536 bytes\n");
         tally::count(tally, tally::UNREAD_FILES);
         return;
     }

@@ -3,31 +3,18 @@ use crate::functions;
 use crate::tally;
 use libc::STDOUT_FILENO;
 
-pub fn unopened(name: &[u8]) {
+// What is wrong with a file.
+pub fn file(name: &[u8], what: &[u8]) {
     say(name);
-    say(b": cannot be opened\n");
+    say(what);
 }
 
-pub fn cut(name: &[u8]) {
-    say(name);
-    say(b": cannot be read, or is larger than 65536 bytes\n");
-}
-
-pub fn differs(name: &[u8], number: u64) {
-    of_line(name, number);
-    say(b"answers differ\n");
-}
-
-pub fn unread(name: &[u8], number: u64) {
-    of_line(name, number);
-    say(b"cannot be read\n");
-}
-
-fn of_line(name: &[u8], number: u64) {
+// What is wrong with a line of a file.
+pub fn line(name: &[u8], number: u64, what: &[u8]) {
     say(name);
     say(b" line ");
     io::print_decimal(STDOUT_FILENO, number);
-    say(b": ");
+    say(what);
 }
 
 // The entries that agree for each function, then for all.

@@ -5,7 +5,7 @@
 ghost use mathlib.Core.Path.{_≡_};
 ghost use Prim.Native.Nat.{_+_, _≤_, max};
 ghost use mathlib.Core.Bool.{false};
-ghost use lib.ListN.{length, drop, replicate};
+ghost use lib.ListN.{length, drop};
 ghost use Rattle.text.specs.Text.{Counts, ahead, afterDigit, decimalOf, nibbleOf, pairOf, pairsOf, isDash, bytesOf, wordFrom, nextAs, andThen};
 ghost use Rattle.text.specs.Meaning.{readOf, takenOf, restOf, wordOf, numberOf, bytesIn};
 
@@ -30,12 +30,6 @@ pub struct Number {
 // How many bytes were put at the start of the lent room, 0 where they could not be read, and what is left after them.
 pub struct Bytes {
     pub count: usize,
-    pub rest: Rest,
-}
-
-// Whether a function answers what an entry records, and what is left of the line after the entry's fields.
-pub struct Ran {
-    pub agrees: bool,
     pub rest: Rest,
 }
 
@@ -64,14 +58,6 @@ pub fn find(s: &[u8], at: usize, b: u8) -> usize
         i += 1;
     }
     i
-}
-
-// Room for a field of bytes.
-pub fn room() -> [u8; 64]
-    ensures { λ r. ⌜ 64 ≡ length r ⌝ }
-    ensures { λ r. ⌜ r ≡ replicate 64 0 ⌝ }
-{
-    [0; 64]
 }
 
 // The number v with one more digit, if b is one and the number is at most `most`.

@@ -2,6 +2,7 @@
 
 mod allocation;
 
+use crate::sides;
 use std::borrow::Cow;
 use std::fmt;
 use zelamodurk::syntax::{Ask, Place, Role};
@@ -268,68 +269,10 @@ impl<'a> Call<'a> {
     }
 }
 
-/// The call in the form of the recorded answers: the function's name, then what it is given.
+/// The call in the form of the recorded answers: the function's name, then what it is lent and asked.
 impl fmt::Display for Call<'_> {
     fn fmt(&self, f: &mut fmt::Formatter<'_>) -> fmt::Result {
-        f.write_str(NAMES[self.function()])?;
-        match self {
-            Call::Get { bytes, pos, n } => write!(f, " {} {pos} {n}", hex(bytes)),
-            Call::Set {
-                bytes,
-                pos,
-                n,
-                value,
-            } => write!(f, " {} {pos} {n} {value}", hex(bytes)),
-            Call::RangeEq { x, a, y, b, n } => write!(f, " {} {a} {} {b} {n}", hex(x), hex(y)),
-            Call::RangeZero { x, a, n } => write!(f, " {} {a} {n}", hex(x)),
-            Call::Crc16 { init, bytes } => write!(f, " {init} {}", hex(bytes)),
-            Call::Zeros { init, n } => write!(f, " {init} {n}"),
-            Call::Allocate(given) => write!(f, " {given}"),
-            _ => self.fmt_syntax(f),
-        }
-    }
-}
-
-impl Call<'_> {
-    /// What a call of syntax is given.
-    fn fmt_syntax(&self, f: &mut fmt::Formatter<'_>) -> fmt::Result {
-        if let Some(from) = self.standing() {
-            write!(f, " {from}")?;
-        }
-        match self {
-            Call::ReadElement { ask, .. } => {
-                let (name, role, index) = (ask.name, ask.role.word(), word16(ask.index));
-                write!(f, " {name} {role} {index} {}", ask.width)
-            }
-            Call::ReadRaw {
-                frame,
-                place,
-                width,
-            } => write!(f, " {} {} {} {width}", hex(frame), place.pos, place.limit),
-            Call::Span {
-                name, role, width, ..
-            } => write!(f, " {name} {} {width}", role.word()),
-            Call::CloseSpan {
-                name, role, start, ..
-            } => write!(f, " {name} {} {start}", role.word()),
-            Call::CheckTiling { log, count, total } => {
-                write!(f, " {} {count} {total}", words_hex(log))
-            }
-            Call::ElementAt { log, count, k } => write!(f, " {} {count} {k}", words_hex(log)),
-            _ => Ok(()),
-        }
-    }
-}
-
-/// The frame, the log, and the cursor's position, limit, block and count.
-impl fmt::Display for Standing<'_> {
-    fn fmt(&self, f: &mut fmt::Formatter<'_>) -> fmt::Result {
-        let (frame, log) = (hex(&self.frame), words_hex(&self.log));
-        let Place {
-            pos, limit, count, ..
-        } = self.place;
-        let block = word16(self.place.block);
-        write!(f, "{frame} {log} {pos} {limit} {block} {count}")
+        write!(f, "{} {}", NAMES[self.function()], sides::lent(self))
     }
 }
 

@@ -15,5 +15,6 @@ pub mod record;
 pub mod rule;
 pub mod rust;
 pub mod scripts;
+pub mod sides;
 pub mod tally;
 pub mod vectors;

@@ -33,7 +33,7 @@ fn main() -> ExitCode {
 fn run() -> Result<(), String> {
     let mut tally = Tally::default();
     for entry in vectors::read()? {
-        tally.hold(&entry.call, &entry.answer);
+        tally.replay(&entry);
     }
     let recorded = tally.total();
     if rust::PRESENT {

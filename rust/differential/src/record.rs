@@ -4,42 +4,44 @@
 use crate::answers::witnessed;
 use crate::call::Call;
 use crate::random::Random;
-use crate::vectors;
+use crate::vectors::{self, FORM};
 use std::collections::HashSet;
 
+mod channels;
 mod syntax;
 
 /// The files' texts, in the order of [`vectors::FILES`].
-pub fn texts() -> Result<[String; 3], String> {
+pub fn texts() -> Result<[String; 4], String> {
     Ok([
         text(BITS_HEAD, &bits_calls())?,
         text(CRC_HEAD, &crc_calls())?,
         text(syntax::HEAD, &syntax::calls())?,
+        text(channels::HEAD, &channels::calls())?,
     ])
 }
 
 const BITS_HEAD: &str = "\
-# Answers of the functions of bits. Recorded from the Rust, saindriches/ddpmeta at 7e6cb39a55, by
-#   cargo run --release -p differential -- record
-# get BYTES POS N NUMBER VALUE BY
-# set BYTES POS N V NUMBER AFTER BY
-# range_eq X A Y B N NUMBER IS BY
-# range_zero X A N NUMBER IS BY
-# Bytes are in hex, - is none; other numbers are decimal. NUMBER is 0 or the refusal's; VALUE and IS
-# are 0 where refused. BY: rust, the Rust answers so; panics, it panics there and document 01
-# decides; differs, it answers something else and document 01 decides.
+# Answers of the functions of bits:
+# get FIRST POS N
+# set FIRST POS N V
+# range_eq FIRST SECOND A B N
+# range_zero FIRST A N
 ";
 
 const CRC_HEAD: &str = "\
-# Answers of the functions of crc. Recorded from the Rust, saindriches/ddpmeta at 7e6cb39a55, by
+# Answers of the functions of crc:
+# crc16 FIRST INIT
+# zeros INIT N
+";
+
+/// How a file was recorded.
+const RECORDED: &str = "\
+# Recorded from the Rust, saindriches/ddpmeta at 7e6cb39a55, by
 #   cargo run --release -p differential -- record
-# crc16 INIT BYTES VALUE BY
-# zeros INIT N VALUE BY
-# Bytes are in hex, - is none; other numbers are decimal. BY: rust, the Rust answers so.
 ";
 
 fn text(head: &str, calls: &[Call]) -> Result<String, String> {
-    let mut text = head.to_string();
+    let mut text = format!("{head}{FORM}{RECORDED}");
     let mut seen = HashSet::new();
     // The lists of boundaries overlap: a call is recorded once.
     for call in calls.iter().filter(|call| seen.insert(call.to_string())) {
@@ -47,7 +49,7 @@ fn text(head: &str, calls: &[Call]) -> Result<String, String> {
         text.push_str(&vectors::line(call, &answer, by)?);
         text.push('\n');
     }
-    Ok(text)
+    vectors::file(text)
 }
 
 /// Five bytes, no two alike, so that a shifted answer shows.

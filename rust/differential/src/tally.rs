@@ -3,6 +3,8 @@
 use crate::answers::{expected, Answer};
 use crate::call::{Call, NAMES};
 use crate::core;
+use crate::sides;
+use crate::vectors::Entry;
 use std::collections::{BTreeMap, BTreeSet};
 use std::fmt;
 
@@ -30,14 +32,29 @@ impl Tally {
 
     /// Compares the core with an answer that is known, and counts the case.
     pub fn hold(&mut self, call: &Call, answer: &Answer) {
-        let differs = match core::answer(call) {
-            Ok(ours) if ours == *answer => {
-                *self.counts[call.function()]
-                    .entry(answer.number)
-                    .or_default() += 1;
+        self.judge(call, answer.number, core::answer(call), answer);
+    }
+
+    /// Compares the core with a recorded answer, and counts the case.
+    pub fn replay(&mut self, entry: &Entry) {
+        let call = &entry.call;
+        let ours = core::answer(call).map(|answer| sides::after(call, &answer));
+        self.judge(call, entry.number(), ours, &entry.after);
+    }
+
+    fn judge<A: PartialEq + fmt::Display>(
+        &mut self,
+        call: &Call,
+        number: u8,
+        ours: Result<A, String>,
+        expected: &A,
+    ) {
+        let differs = match ours {
+            Ok(ours) if ours == *expected => {
+                *self.counts[call.function()].entry(number).or_default() += 1;
                 return;
             }
-            Ok(ours) => format!("{call}\n  expected {answer}\n  got      {ours}"),
+            Ok(ours) => format!("{call}\n  expected {expected}\n  got      {ours}"),
             Err(why) => format!("{call}: {why}"),
         };
         self.differs.get_or_insert(differs);

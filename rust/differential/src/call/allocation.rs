@@ -1,8 +1,7 @@
 //! What an allocation is given.
 
-use super::{hex, Bytes};
+use super::Bytes;
 use std::borrow::Cow;
-use std::fmt;
 use zelamodurk::alloc::{Bin, Channel, Codes, Pointers, Segment, Tables, BINS};
 
 /// A channel and the tables that are lent.
@@ -40,37 +39,5 @@ impl Allocation<'_> {
             hearing: &self.hearing,
             log_add: &self.log_add,
         }
-    }
-}
-
-/// The exponents, the range, the codes, the leaks, the segments, the kind of pointers, and the tables.
-impl fmt::Display for Allocation<'_> {
-    fn fmt(&self, f: &mut fmt::Formatter<'_>) -> fmt::Result {
-        let leak = self
-            .leak
-            .map_or(Vec::new(), |(fast, slow)| vec![fast, slow]);
-        let segments: Vec<u8> = self
-            .delta
-            .iter()
-            .flat_map(|segment| [segment.offset, segment.len, segment.ba])
-            .collect();
-        let hearing: Vec<u8> = self
-            .hearing
-            .iter()
-            .flat_map(|entry| entry.to_be_bytes())
-            .collect();
-        write!(
-            f,
-            "{} {} {} {} {} {} {:?} {} {}",
-            hex(&self.exponents),
-            self.start,
-            self.end,
-            hex(&self.codes.bytes()),
-            hex(&leak),
-            hex(&segments),
-            self.pointers,
-            hex(&hearing),
-            hex(&self.log_add)
-        )
     }
 }

@@ -8,19 +8,14 @@ use crate::scripts;
 use zelamodurk::syntax::{Ask, Place, Role};
 
 pub const HEAD: &str = "\
-# Answers of the functions of syntax. Recorded from the Rust, saindriches/ddpmeta at 7e6cb39a55, by
-#   cargo run --release -p differential -- record
-# read_element FRAME LOG POS LIMIT BLOCK COUNT NAME ROLE INDEX WIDTH NUMBER BIT VALUE POS' COUNT' AFTER BY
-# read_raw FRAME POS LIMIT WIDTH NUMBER BIT VALUE POS' BY
-# span FRAME LOG POS LIMIT BLOCK COUNT NAME ROLE WIDTH NUMBER BIT POS' COUNT' AFTER BY
-# close_span FRAME LOG POS LIMIT BLOCK COUNT NAME ROLE START NUMBER BIT COUNT' AFTER BY
-# check_tiling LOG COUNT TOTAL NUMBER BY
-# element_at LOG COUNT K NUMBER NAME ROLE BLOCK INDEX POS WIDTH VALUE BY
-# Bytes and logs are in hex, a log's words high byte first, - is none; other numbers are decimal, block
-# and index two's complement in 16 bits. AFTER, POS' and COUNT' are the log and the cursor after the
-# call. NUMBER is 0 or the refusal's, BIT the bit that it carries; VALUE and an element's fields are 0
-# where refused. BY: rust, the Rust answers so, and for element_at it logged so; panics, it panics
-# there and document 01 decides; differs, it answers something else and document 01 decides.
+# Answers of the functions of syntax. PLACE is POS LIMIT BLOCK COUNT, a role its word:
+# read_element FIRST WORDS PLACE NAME ROLE INDEX WIDTH, answers .. POS COUNT
+# read_raw FIRST PLACE WIDTH, answers .. POS COUNT
+# span FIRST WORDS PLACE NAME ROLE WIDTH, answers .. POS COUNT
+# close_span FIRST WORDS PLACE NAME ROLE START, answers .. POS COUNT
+# check_tiling WORDS COUNT TOTAL
+# element_at WORDS COUNT K, answers .. NAME ROLE BLOCK INDEX POS WIDTH VALUE where taken
+# FIRST is the frame, WORDS the log. For element_at the Rust logged so.
 ";
 
 pub fn calls() -> Vec<Call<'static>> {

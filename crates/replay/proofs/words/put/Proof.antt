@@ -1,11 +1,11 @@
--- `syntax_entries::words::put` is safe and ends.
+-- `replay::words::put` is safe and ends.
 -- Assumes nothing.
 use mathlib.Core.Path.{_≡_}
 use Prim.Native.Nat.{_-_, _≤_}
 use lib.ListN.{length}
 use borrow.Author.Needs.{needs}
-use Rattle.syntax_entries.proofs.words.put.Statement.{statement}
-use Rattle.syntax_entries.proofs.words.put.Tie as tie
+use Rattle.replay.proofs.words.put.Statement.{statement}
+use Rattle.replay.proofs.words.put.Tie as tie
 
 abbrev Inv-loop : tie.InvT-loop
 Inv-loop bytes out₀ count k₀ out k = (k ≤ count) × (length out ≡ length out₀)

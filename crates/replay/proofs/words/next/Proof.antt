@@ -1,12 +1,9 @@
--- `syntax_entries::words::next` is safe, and its count lends the words that it put.
+-- `replay::words::next` is safe, and its count lends the words that it put.
 -- Assumes nothing.
 use borrow.Author.Needs.{needs}
 use Rattle.text.proofs.Laws.{counts}
-use Rattle.syntax_entries.proofs.words.next.Statement.{statement}
-use Rattle.syntax_entries.proofs.words.next.Tie as tie
-
-room-requires : tie.Need-room-requires
-room-requires c κs = search needs
+use Rattle.replay.proofs.words.next.Statement.{statement}
+use Rattle.replay.proofs.words.next.Tie as tie
 
 slice-aggregate-next-bytes : tie.Need-slice-aggregate-next-bytes
 slice-aggregate-next-bytes c = search needs
@@ -45,7 +42,6 @@ pub next-spec : {M : Type 1} → statement M
 next-spec =
     tie.close
     (tie.spec
-    room-requires
     slice-aggregate-next-bytes
     next-bytes-requires
     unread-requires

@@ -1,10 +1,10 @@
--- `replay::words::place` is safe and ends: each turn moves past a word's end, and a word's number is at most its place.
+-- `replay::names::place` is safe and ends: each turn moves past a word's end, and a word's number is at most its place.
 -- Assumes nothing.
 use Prim.Native.Nat.{_+_, _-_, _≤_}
 use lib.ListN.{length}
 use borrow.Author.Needs.{needs}
-use Rattle.replay.proofs.words.place.Statement.{statement}
-use Rattle.replay.proofs.words.place.Tie as tie
+use Rattle.replay.proofs.names.place.Statement.{statement}
+use Rattle.replay.proofs.names.place.Tie as tie
 
 abbrev Inv-loop : tie.InvT-loop
 Inv-loop list word k₀ at₀ k at = (k ≤ at) × (at ≤ length list + 1)

@@ -1,11 +1,11 @@
--- `syntax_entries::words::same` is safe and ends.
+-- `replay::words::same` is safe and ends.
 -- Assumes nothing.
 use mathlib.Core.Path.{_≡_}
 use Prim.Native.Nat.{_-_, _≤_}
 use lib.ListN.{length}
 use borrow.Author.Needs.{needs}
-use Rattle.syntax_entries.proofs.words.same.Statement.{statement}
-use Rattle.syntax_entries.proofs.words.same.Tie as tie
+use Rattle.replay.proofs.words.same.Statement.{statement}
+use Rattle.replay.proofs.words.same.Tie as tie
 
 abbrev Inv-loop : tie.InvT-loop
 Inv-loop a b i₀ i = (i ≤ length a) × (length a ≡ length b)
