@@ -1,0 +1,6 @@
+pub mod Lists
+pub mod Turns
+pub mod Ways
+pub mod Reached
+pub mod Examples
+pub mod Unique

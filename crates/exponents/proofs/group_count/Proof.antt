@@ -1,0 +1,46 @@
+-- `exponents::group_count` meets its contract: each arm of the match is a case of the definition.
+-- Assumes nothing.
+use Prim.Native.Nat.{_+_, _-_, _*_}
+use mathlib.Core.Path.{refl}
+use borrow.Author.Tests.{ne-eqb}
+use native.Mathlib.Nat.{div-le-self}
+use borrow.Author.Needs.{needs}
+use native.Mathlib.Omega.{arith}
+use Rattle.exponents.specs.Set.{groupCount}
+use Rattle.exponents.proofs.group_count.Statement.{statement}
+use Rattle.exponents.proofs.group_count.Tie as tie
+
+returns : tie.Need-returns
+unfolding groupCount
+returns c =
+    let a = c .before .args in
+    let h = div-le-self (a .end - a .start) (3 * a .g) in
+    rw (c .match .keys1) (refl, omega arith)
+
+returns-2 : tie.Need-returns-2
+unfolding groupCount
+returns-2 c = rw (c .match .keys2) (refl, omega arith)
+
+returns-3 : tie.Need-returns-3
+unfolding groupCount
+returns-3 c =
+    let a = c .before .args in
+    let h = div-le-self (a .end - 1 + 3 * a .g - 3) (3 * a .g) in
+    (simp (ne-eqb _ _ (c .match .rest .0 .1), ne-eqb _ _ (c .match .rest .1)), omega arith)
+
+pub group-count-spec : {M : Type 1} → statement M
+group-count-spec =
+    tie.close
+    (tie.spec
+    (λ c. search needs)
+    (λ c. search needs)
+    (λ c. search needs)
+    (λ c. search needs)
+    (λ c. search needs)
+    (λ c. search needs)
+    (λ c. search needs)
+    (λ c. search needs)
+    (λ c. search needs)
+    returns
+    returns-2
+    returns-3)
