@@ -12,10 +12,11 @@ use lib.ListN.{set}
 use lib.Seq.{sets}
 use borrow.Author.Tests.{ltb-false, leb-false, lt-ltb, le-ltb, eq-eqb, ne-eqb}
 use Rattle.refusal.specs.Refusals.{Grounds, grounds, groundsOf, Outcome, taken, refused, Ran, follow, thenRun}
+use Rattle.refusal.specs.declared.Refusal.{Refusal}
+use Rattle.refusal.proofs.Laws.{never}
 use Rattle.bits.specs.declared.Put.{Put}
 use Rattle.bits.specs.declared.Put.the-variants as put
 use Rattle.bits.specs.Answers.{doneOf}
-use Rattle.refusal.proofs.Laws.{never}
 use Rattle.syntax.specs.declared.Place.{Place}
 use Rattle.syntax.specs.declared.Ask.{Ask}
 use Rattle.syntax.specs.declared.Reader.{Reader}
@@ -62,52 +63,64 @@ stopped-is w log exp {p} {g} e f = go (w .reader .answer) f ∙ ap (λ (x : Plac
     go put.Done h = never (sym h)
     go (put.Refused r) h = let k : groundsOf r ≡ g = cc in ap (λ (x : Grounds). ends (standing (w .reader .place) log) (refused x)) k
 
--- a group that was read
-module _ (reader : Reader) (log exp : List ℕ) (last next g : ℕ) where
-  pub unpack-stays : (l : Laid) {r : _} → reader .answer ≡ put.Refused r
-      → _≡_ {A = Ran Standing Laid} (record { outcome = holding (reader .answer) l; state = standing (reader .place) log })
-      (unpackOn g (laid last next exp) (readerOf reader log))
-  unfolding unpackOn
-  unpack-stays l e = rw e
-
-  module _ (done : reader .answer ≡ put.Done) where
-    pub unpack-above : 124 < reader .value
-        → ends (standing (reader .place) log) (refused (grounds 7 (reader .place .pos))) ≡ unpackOn g (laid last next exp) (readerOf reader log)
-    unfolding unpackOn
-    unpack-above h = rw (done, lt-ltb 124 (reader .value) h)
-
-    pub unpack-outside : reader .value ≤ 124 → outside last (digits (reader .value)) ≡ true
-        → ends (standing (reader .place) log) (refused (grounds 8 (reader .place .pos))) ≡ unpackOn g (laid last next exp) (readerOf reader log)
-    unfolding unpackOn
-    unpack-outside h o = rw (done, le-ltb 124 (reader .value) h, o)
-
-    pub unpack-on : reader .value ≤ 124 → outside last (digits (reader .value)) ≡ false → (e : ℕ) (exp′ : List ℕ)
-        → e ≡ lastOf last (digits (reader .value)) → exp′ ≡ sets exp next (spread g (running last (digits (reader .value))))
-        → _≡_ {A = Ran Standing Laid}
-        (record { outcome = holding (reader .answer) (laid e (next + 3 * g) exp′); state = standing (reader .place) log })
-        (unpackOn g (laid last next exp) (readerOf reader log))
-    unfolding unpackOn
-    unpack-on h o e exp′ p q =
-        rw (done, le-ltb 124 (reader .value) h, o)
-        (λ i. ends (standing (reader .place) log) (taken (laid (p i) (next + 3 * g) (q i))))
+-- a run that goes on with a reader that is refused
+pub halted-is : (w : Run) (log exp : List ℕ) (reader : Reader) {r : Refusal} → w .reader ≡ reader → reader .answer ≡ put.Refused r
+    → runOf w log exp ≡ ends (standing (reader .place) log) (refused (groundsOf r))
+halted-is w log exp reader e f =
+    stopped-is w log exp (ap (λ (x : Reader). x .place) e) (ap (λ (x : Reader). doneOf (x .answer)) e ∙ ap doneOf f)
 
 -- a group is the next read, and then unpacked
-pub group-is : (frame : List ℕ) (ask : Ask) (g : ℕ) (w : Run) (log exp : List ℕ) (r : Ran Standing ℕ) → r ≡ nextOf frame ask (readerOf (w .reader) log)
-    → unpackOn g (laid (w .last) (w .next) exp) r ≡ groupOn frame ask g (runOf w log exp)
-unfolding unpackOn groupOn nextOf
-group-is frame ask g w log exp r e = ap (unpackOn g (laid (w .last) (w .next) exp)) e ∙ go (w .reader .answer)
-  where
-    l : Laid
-    l = laid (w .last) (w .next) exp
+module _ (frame : List ℕ) (ask : Ask) (g : ℕ) (w : Run) (log exp : List ℕ) (read : Reader) (log′ : List ℕ)
+    (next : readerOf read log′ ≡ nextOf frame ask (readerOf (w .reader) log)) where
+  abbrev here : Standing
+  here = standing (read .place) log′
 
-    st : Standing
-    st = standing (w .reader .place) log
+  abbrev old : Laid
+  old = laid (w .last) (w .next) exp
 
-    go : (a : Put)
-        → unpackOn g l (nextOf frame ask (record { outcome = seenOf a (w .reader .value); state = st }))
-        ≡ groupOn frame ask g (record { outcome = holding a l; state = st })
-    go put.Done = refl
-    go (put.Refused x) = refl
+  group-is : unpackOn g old (readerOf read log′) ≡ groupOn frame ask g (runOf w log exp)
+  unfolding unpackOn groupOn nextOf
+  group-is = ap (unpackOn g old) next ∙ go (w .reader .answer)
+    where
+      go : (a : Put)
+          → unpackOn g old (nextOf frame ask (record { outcome = seenOf a (w .reader .value); state = standing (w .reader .place) log }))
+          ≡ groupOn frame ask g (record { outcome = holding a old; state = standing (w .reader .place) log })
+      go put.Done = refl
+      go (put.Refused x) = refl
+
+  pub group-stays : {r : Refusal} → read .answer ≡ put.Refused r
+      → _≡_ {A = Ran Standing Laid} (ends here (refused (groundsOf r))) (groupOn frame ask g (runOf w log exp))
+  unfolding unpackOn
+  group-stays {r} e = unpack ∙ group-is
+    where
+      unpack : ends here (refused (groundsOf r)) ≡ unpackOn g old (readerOf read log′)
+      unpack = rw e
+
+  module _ (done : read .answer ≡ put.Done) where
+    pub group-above : 124 < read .value
+        → _≡_ {A = Ran Standing Laid} (ends here (refused (grounds 7 (read .place .pos)))) (groupOn frame ask g (runOf w log exp))
+    unfolding unpackOn
+    group-above h = unpack ∙ group-is
+      where
+        unpack : ends here (refused (grounds 7 (read .place .pos))) ≡ unpackOn g old (readerOf read log′)
+        unpack = rw (done, lt-ltb 124 (read .value) h)
+
+    pub group-outside : read .value ≤ 124 → outside (w .last) (digits (read .value)) ≡ true
+        → _≡_ {A = Ran Standing Laid} (ends here (refused (grounds 8 (read .place .pos)))) (groupOn frame ask g (runOf w log exp))
+    unfolding unpackOn
+    group-outside h o = unpack ∙ group-is
+      where
+        unpack : ends here (refused (grounds 8 (read .place .pos))) ≡ unpackOn g old (readerOf read log′)
+        unpack = rw (done, le-ltb 124 (read .value) h, o)
+
+    pub group-lays : read .value ≤ 124 → outside (w .last) (digits (read .value)) ≡ false → (last : ℕ) (exp′ : List ℕ)
+        → last ≡ lastOf (w .last) (digits (read .value)) → exp′ ≡ sets exp (w .next) (spread g (running (w .last) (digits (read .value))))
+        → runOf (record { reader = read; last = last; next = w .next + 3 * g }) log′ exp′ ≡ groupOn frame ask g (runOf w log exp)
+    unfolding unpackOn
+    group-lays h o last exp′ p q = unpack ∙ group-is
+      where
+        unpack : runOf (record { reader = read; last = last; next = w .next + 3 * g }) log′ exp′ ≡ unpackOn g old (readerOf read log′)
+        unpack = rw (done, le-ltb 124 (read .value) h, o) (λ i. ends here (taken (laid (p i) (w .next + 3 * g) (q i))))
 
 -- one turn of the loop over the groups
 pub groups-again : (frame : List ℕ) (ask : Ask) (g i : ℕ) (r r₀ : Ran Standing Laid) → r ≡ groupsOn frame ask g i r₀
@@ -163,7 +176,7 @@ module _ (start end : ℕ) (w : Run) (log exp : List ℕ) where
   abbrev stands : Standing
   stands = standing (w .reader .place) log
 
-  pub finish-stays : {r : _} → w .reader .answer ≡ put.Refused r
+  pub finish-stays : {r : Refusal} → w .reader .answer ≡ put.Refused r
       → _≡_ {A = Ran Left Unit} (record { outcome = doneOf (w .reader .answer); state = left stands noSet }) (finishOn start end (runOf w log exp))
   unfolding finishOn
   finish-stays e = rw e

@@ -12,17 +12,16 @@ use syntax::next;
 use tables::Bin;
 ghost use mathlib.Core.Path.{_≡_};
 ghost use mathlib.Core.Bool.{false};
-ghost use Prim.Native.Nat.{_+_, _≤_, _<_};
-ghost use lib.ListN.{length, set, replicate};
-ghost use lib.Seq.{sets};
 ghost use mathlib.Core.List.{List};
-ghost use Prim.Native.Nat.{ℕ};
+ghost use Prim.Native.Nat.{ℕ, _+_, _≤_, _<_};
+ghost use lib.ListN.{set, replicate};
+ghost use lib.Seq.{sets};
 ghost use Rattle.refusal.specs.Refusals.{numberOf, grounds, refused, taken, thenRun};
 ghost use Rattle.bits.specs.Answers.{doneOf};
 ghost use Rattle.syntax.specs.Reads.{standing, readerOf};
 ghost use Rattle.exponents.specs.Set.{sizeOf, groupCount, digits, running, offScale, outside, spread};
 ghost use Rattle.exponents.specs.Reads.{exponentsOf, ends, unfit, askOf, noSet, readExponentsOf};
-ghost use Rattle.exponents.specs.Turns.{laid, runOf, lastOf, begunOf, unpackOn, groupOn, groupsOn, firstOn, finishOn};
+ghost use Rattle.exponents.specs.Turns.{runOf, lastOf, begunOf, groupOn, groupsOn, firstOn, finishOn};
 
 // The exponents of a slot, and the range of bins that they were read for.
 pub struct ExpSet {
@@ -175,20 +174,10 @@ fn put_three(exp: &mut [u8], at: usize, g: usize, e: u8, v: u8) -> u8
     c
 }
 
-// A run that is refused where it stands.
-fn stopped(why: Why, reader: Reader) -> Run
-    ensures { λ r. ⌜ (r .reader .place ≡ reader .place) × (doneOf (r .reader .answer) ≡ refused (grounds (numberOf why) (reader .place .pos))) × (r .last ≤ 30) × (r .next ≤ 0) ⌝ }
+// A run whose reader is refused: it lays nothing more.
+fn halted(reader: Reader) -> Run
+    ensures { λ r. ⌜ (r .reader ≡ reader) × (r .last ≡ 0) × (r .next ≡ 0) ⌝ }
 {
-    let place = reader.place;
-    let r = Refusal {
-        why,
-        bit: place.pos,
-    };
-    let reader = Reader {
-        answer: Put::Refused(r),
-        place,
-        value: 0,
-    };
     Run {
         reader,
         last: 0,
@@ -196,39 +185,47 @@ fn stopped(why: Why, reader: Reader) -> Run
     }
 }
 
-// A group that was read: 7, then 8, then its results are laid. A reader that is refused stays.
-fn unpacked(exp: &mut [u8], reader: Reader, last: u8, next: usize, g: usize) -> Run
-    requires { ⌜ (last ≤ 30) × (next ≤ 4000) × (g ≤ 4) ⌝ }
-    ensures { λ r. ⌜ ((log : List ℕ) → runOf r log (now (exp .exit)) ≡ unpackOn g (laid last next (now (exp .entry))) (readerOf reader log)) × (r .last ≤ 30) × (r .next ≤ next + 12) ⌝ }
+// A run that is refused where its reader stands.
+fn stopped(why: Why, reader: Reader) -> Run
+    ensures { λ r. ⌜ (r .reader .place ≡ reader .place) × (doneOf (r .reader .answer) ≡ refused (grounds (numberOf why) (reader .place .pos))) × (r .last ≡ 0) × (r .next ≡ 0) ⌝ }
 {
-    let answer = reader.answer;
-    if let Put::Refused(_) = answer {
-        return Run { reader, last, next };
-    }
-    let value = reader.value;
-    if 124 < value {
-        return stopped(Why::GroupAbove, reader);
-    }
-    let v = value as u8;
-    if is_outside(last, v) {
-        return stopped(Why::ExponentOutside, reader);
-    }
-    let e = put_three(exp, next, g, last, v);
-    Run {
-        reader,
-        last: e,
-        next: next + 3 * g,
-    }
+    let place = reader.place;
+    let r = Refusal {
+        why,
+        bit: place.pos,
+    };
+    halted(Reader {
+        answer: Put::Refused(r),
+        place,
+        value: 0,
+    })
 }
 
-// One group: it is read, logged and unpacked.
+// One group: it is read and logged; 7, then 8, then its results are laid.
 fn group(frame: &[u8], log: &mut [u32], exp: &mut [u8], run: Run, ask: Ask, g: usize) -> Run
     requires { ⌜ (run .last ≤ 30) × (run .next ≤ 4000) × (g ≤ 4) ⌝ }
     ensures { λ r. ⌜ (runOf r (now (log .exit)) (now (exp .exit)) ≡ groupOn (now (frame .entry)) ask g (runOf run (now (log .entry)) (now (exp .entry)))) × (r .last ≤ 30) × (r .next ≤ run .next + 12) ⌝ }
 {
     let reader = run.reader;
     let read = next(frame, log, reader, ask);
-    unpacked(exp, read, run.last, run.next, g)
+    let answer = read.answer;
+    if let Put::Refused(_) = answer {
+        return halted(read);
+    }
+    if 124 < read.value {
+        return stopped(Why::GroupAbove, read);
+    }
+    let v = read.value as u8;
+    if is_outside(run.last, v) {
+        return stopped(Why::ExponentOutside, read);
+    }
+    let at = run.next;
+    let last = put_three(exp, at, g, run.last, v);
+    Run {
+        reader: read,
+        last,
+        next: at + 3 * g,
+    }
 }
 
 // So many groups, one after another.
@@ -258,18 +255,18 @@ fn begun(exp: &mut [u8], reader: Reader, slot: u8, start: usize) -> Run
     requires { ⌜ (reader .value ≤ 15) × (start ≤ 255) ⌝ }
     ensures { λ r. ⌜ ((log : List ℕ) → runOf r log (now (exp .exit)) ≡ thenRun (readerOf reader log) (λ abs st. ends st (taken (begunOf slot start (now (exp .entry)) abs)))) × (r .last ≤ 30) × (r .next ≤ 256) ⌝ }
 {
-    let e = reader.value as u8;
+    let abs = reader.value as u8;
     if slot == 5 {
         return Run {
             reader,
-            last: 2 * e,
+            last: 2 * abs,
             next: start,
         };
     }
-    put_one(exp, 0, e);
+    put_one(exp, 0, abs);
     Run {
         reader,
-        last: e,
+        last: abs,
         next: 1,
     }
 }

@@ -1,11 +1,10 @@
--- `exponents::first` meets its contract.
+-- `exponents::first` meets its contract: the reader that has read nothing reads on, and its value has 4 bits.
 -- Assumes nothing.
 use Prim.Native.Nat.{ℕ, _≤_}
-use mathlib.Core.Path.{_≡_, sym, ap, _∙_, subst}
+use mathlib.Core.Path.{sym, ap, _∙_, subst}
 use denote.Ref.{now}
 use Rattle.refusal.specs.Refusals.{taken, Ran, thenRun}
 use Rattle.syntax.specs.Reads.{Standing, standing, shown}
-use native.Mathlib.Omega.{arith}
 use borrow.Author.Needs.{needs}
 use Rattle.exponents.specs.Reads.{ends}
 use Rattle.exponents.specs.Turns.{begunOf, firstOn}
@@ -17,9 +16,12 @@ begun-requires : tie.Need-begun-requires
 begun-requires c κs =
     let a = c .before .before .before .before .before .before .before .before .before .before .args in
     let n = c .before .before .before .next .ensures in
-    let b = c .before .before .before .before .begin .ensures in
-    let e = first-reads (now (a .frame)) (a .place) (now (a .log)) (a .slot) _ (c .before .before .before .before .begin .result) _ (c .before .before .before .before .before .before .ask-of .ensures) (b .0) (b .1) (n .0) in (
-      subst (λ (k : ℕ). k ≤ 15) (sym (n .1 ∙ ap (λ (r : Ran Standing ℕ). shown (r .outcome)) e)) (abs-low (now (a .frame)) (standing (a .place) (now (a .log))) (a .slot)),
+    let b = c .before .before .before .before .begin in
+    let e =
+    first-reads (now (a .frame)) (a .place) (now (a .log)) (a .slot) _ (b .result) _
+    (c .before .before .before .before .before .before .ask-of .ensures) (b .ensures .0) (b .ensures .1) (n .0) in (
+      subst (λ (k : ℕ). k ≤ 15) (sym (n .1 ∙ ap (λ (r : Ran Standing ℕ). shown (r .outcome)) e))
+          (abs-low (now (a .frame)) (standing (a .place) (now (a .log))) (a .slot)),
       c .before .before .before .before .before .before .before .before .before .before .pre,
     )
 
@@ -27,9 +29,10 @@ returns : tie.Need-returns
 unfolding firstOn
 returns c =
     let a = c .before .before .before .before .before .before .before .before .before .before .before .before .before .args in
-    let n = c .before .before .before .before .before .before .next .ensures in
-    let b = c .before .before .before .before .before .before .before .begin .ensures in
-    let e = first-reads (now (a .frame)) (a .place) (now (a .log)) (a .slot) _ (c .before .before .before .before .before .before .before .begin .result) _ (c .before .before .before .before .before .before .before .before .before .ask-of .ensures) (b .0) (b .1) (n .0) in (
+    let b = c .before .before .before .before .before .before .before .begin in
+    let e =
+    first-reads (now (a .frame)) (a .place) (now (a .log)) (a .slot) _ (b .result) _
+    (c .before .before .before .before .before .before .before .before .before .ask-of .ensures) (b .ensures .0) (b .ensures .1) (c .before .before .before .before .before .before .next .ensures .0) in (
       c .before .before .begun .ensures .0 _
           ∙ ap (λ (r : Ran Standing ℕ). thenRun r (λ abs st. ends st (taken (begunOf (a .slot) (a .start) (now (a .exp)) abs)))) e,
       c .before .before .begun .ensures .1,

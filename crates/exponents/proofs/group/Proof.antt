@@ -1,19 +1,75 @@
--- `exponents::group` meets its contract.
+-- `exponents::group` meets its contract: each way through it is a case of the definition.
 -- Assumes nothing.
-use mathlib.Core.Path.{_∙_}
+use mathlib.Core.Path.{_∙_, sym}
 use denote.Ref.{now}
+use native.Mathlib.Omega.{arith}
 use borrow.Author.Needs.{needs}
-use Rattle.exponents.proofs.Ways.{group-is}
+use Rattle.exponents.proofs.Ways.{stopped-is, halted-is, group-stays, group-above, group-outside, group-lays}
 use Rattle.exponents.proofs.group.Statement.{statement}
 use Rattle.exponents.proofs.group.Tie as tie
 
 returns : tie.Need-returns
 returns c =
-    let a = c .before .before .before .before .before .before .before .before .before .before .before .before .args in
-    let u = c .before .before .unpacked in (
-      u .ensures .0 _ ∙ group-is (now (a .frame)) (a .ask) (a .g) (a .run) (now (a .log)) (now (a .exp)) _ (c .before .before .before .before .before .before .next .ensures .0),
-      u .ensures .1,
-      u .ensures .2,
+    let a = c .before .before .before .before .before .before .before .before .before .before .before .args in
+    let n = c .before .before .before .before .before .next in
+    let r = c .halted in
+    let told = c .before .enum-told .given .1 in (
+      halted-is (r .result) _ (now (a .exp)) (n .result) (r .ensures .0) told
+          ∙ group-stays (now (a .frame)) (a .ask) (a .g) (a .run) (now (a .log)) (now (a .exp)) (n .result) _ (n .ensures .0) told,
+      omega (arith, r .ensures .1),
+      omega (arith, r .ensures .2),
+    )
+
+returns-2 : tie.Need-returns-2
+returns-2 c =
+    let a = c .before .before .before .before .before .before .before .before .before .before .before .before .before .args in
+    let n = c .before .before .before .before .before .before .before .next in
+    let r = c .stopped in (
+      stopped-is (r .result) _ (now (a .exp)) (r .ensures .0) (r .ensures .1)
+          ∙ group-above (now (a .frame)) (a .ask) (a .g) (a .run) (now (a .log)) (now (a .exp)) (n .result) _ (n .ensures .0)
+          (c .before .before .before .enum-told2 .given .1) (c .before .if1 .taken),
+      omega (arith, r .ensures .2),
+      omega (arith, r .ensures .3),
+    )
+
+is-outside-requires : tie.Need-is-outside-requires
+is-outside-requires c κs = (c .before .before .before .before .before .before .before .before .before .before .before .before .before .pre .0, c .before .if1 .left)
+
+returns-3 : tie.Need-returns-3
+returns-3 c =
+    let a = c .before .before .before .before .before .before .before .before .before .before .before .before .before .before .before .before .args in
+    let n = c .before .before .before .before .before .before .before .before .before .before .next in
+    let r = c .stopped2 in (
+      stopped-is (r .result) _ (now (a .exp)) (r .ensures .0) (r .ensures .1)
+          ∙ group-outside (now (a .frame)) (a .ask) (a .g) (a .run) (now (a .log)) (now (a .exp)) (n .result) _ (n .ensures .0)
+          (c .before .before .before .before .before .before .enum-told2 .given .1) (c .before .before .before .before .if1 .left) (sym (c .before .before .is-outside .ensures) ∙ c .before .if2 .taken),
+      omega (arith, r .ensures .2),
+      omega (arith, r .ensures .3),
+    )
+
+put-three-requires : tie.Need-put-three-requires
+put-three-requires c κs =
+    let p = c .before .before .before .before .before .before .before .before .before .before .before .before .before .before .before .before .pre in
+    (p .1, p .2, p .0, c .before .before .before .before .if1 .left, sym (c .before .before .is-outside .ensures) ∙ c .before .if2 .left)
+
+mul-next : tie.Need-mul-t21
+mul-next c = omega (arith, c .before .before .before .before .before .before .before .before .before .before .before .before .before .before .before .before .before .before .before .pre .2)
+
+add-next : tie.Need-add-t22
+add-next c = omega (arith, c .before .before .before .before .before .before .before .before .before .before .before .before .before .before .before .before .before .before .before .pre .1, c .before .before .before .before .before .before .before .before .before .before .before .before .before .before .before .before .before .before .before .pre .2)
+
+returns-4 : tie.Need-returns-4
+returns-4 c =
+    let f = c .before .before .before .before .before .before .before in
+    let s = f .before .before .before .before .before .before .before .before .before .before .before .before in
+    let a = s .args in
+    let n = f .before .before .before .before .before .before .next in
+    let t = c .before .before .put-three in (
+      group-lays (now (a .frame)) (a .ask) (a .g) (a .run) (now (a .log)) (now (a .exp)) (n .result) _ (n .ensures .0)
+          (f .before .before .enum-told2 .given .1) (f .if1 .left) (sym (c .before .before .before .before .before .is-outside .ensures) ∙ c .before .before .before .before .if2 .left)
+          _ _ (t .ensures .0) (t .ensures .2),
+      omega (arith, t .ensures .1),
+      omega (arith, s .pre .2),
     )
 
 pub group-spec : {M : Type 1} → statement M
@@ -21,7 +77,22 @@ group-spec =
     tie.close
     (tie.spec
     (λ c κs. search needs)
+    (λ c. search needs)
     (λ c κs. search needs)
     (λ c. search needs)
+    returns
     (λ c. search needs)
-    returns)
+    (λ c κs. search needs)
+    (λ c. search needs)
+    returns-2
+    (λ c. search needs)
+    is-outside-requires
+    (λ c κs. search needs)
+    (λ c. search needs)
+    returns-3
+    put-three-requires
+    mul-next
+    add-next
+    (λ c. search needs)
+    (λ c. search needs)
+    returns-4)
