@@ -38,7 +38,7 @@ module _ (frame : List ℕ) (ask : Ask) (e : ℕ) where
           subst (λ (x : List ℕ). outside e (allDigits x) ≡ false) (taken-same (t .1)) (t .0)
       go (refused g) k = never k
 
-  groups-inside : (n : ℕ) (st : Standing) (vs : List ℕ) → groupsOf frame ask e n st .outcome ≡ taken vs → outside e (allDigits vs) ≡ false
+  pub groups-inside : (n : ℕ) (st : Standing) (vs : List ℕ) → groupsOf frame ask e n st .outcome ≡ taken vs → outside e (allDigits vs) ≡ false
   unfolding groupsOf outside allDigits
   groups-inside zero st vs h = subst (λ (x : List ℕ). outside e (allDigits x) ≡ false) (taken-same h) refl
   groups-inside (suc n) st vs h = go (groupsOf frame ask e n st .outcome) h

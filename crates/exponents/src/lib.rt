@@ -20,8 +20,13 @@ ghost use Rattle.refusal.specs.Refusals.{numberOf, grounds, refused, taken, the
 ghost use Rattle.bits.specs.Answers.{doneOf};
 ghost use Rattle.syntax.specs.Reads.{standing, readerOf};
 ghost use Rattle.exponents.specs.Set.{sizeOf, groupCount, digits, running, offScale, outside, spread};
-ghost use Rattle.exponents.specs.Reads.{exponentsOf, ends, unfit, askOf, noSet, readExponentsOf};
+ghost use Rattle.exponents.specs.Reads.{exponentsOf, ends, unfit, askOf, noSet, leaves, readExponentsOf};
 ghost use Rattle.exponents.specs.Turns.{runOf, lastOf, begunOf, groupOn, groupsOn, firstOn, finishOn};
+
+// The slots after those of the full bandwidth channels, 0 to 4: coupling, and LFE, the last.
+const CPL: u8 = 5;
+
+const LFE: u8 = 6;
 
 // The exponents of a slot, and the range of bins that they were read for.
 pub struct ExpSet {
@@ -48,7 +53,7 @@ pub struct Run {
 fn is_unfit(slot: u8, strategy: u8, start: usize, end: usize) -> bool
     ensures { λ r. ⌜ r ≡ unfit slot strategy start end ⌝ }
 {
-    if 6 < slot {
+    if LFE < slot {
         return true;
     }
     if strategy < 1 {
@@ -80,36 +85,40 @@ fn group_count(slot: u8, g: usize, start: usize, end: usize) -> usize
     requires { ⌜ (start < end) × (end ≤ 256) × (1 ≤ g) × (g ≤ 4) ⌝ }
     ensures { λ r. ⌜ (r ≡ groupCount slot g start end) × (r ≤ 300) ⌝ }
 {
-    match slot {
-        5 => (end - start) / (3 * g),
-        6 => 2,
-        _ => (end - 1 + 3 * g - 3) / (3 * g),
+    if slot == CPL {
+        return (end - start) / (3 * g);
     }
+    if slot == LFE {
+        return 2;
+    }
+    (end - 1 + 3 * g - 3) / (3 * g)
 }
 
 // An element of a slot's exponents: its name is that for a full bandwidth channel, for coupling or for LFE.
 fn ask_of(slot: u8, full: u32, coupling: u32, lfe: u32, width: usize) -> Ask
     ensures { λ r. ⌜ r ≡ askOf slot full coupling lfe width ⌝ }
 {
-    match slot {
-        5 => Ask {
+    if slot == CPL {
+        return Ask {
             name: coupling,
             role: Role::Plain,
             index: 0,
             width,
-        },
-        6 => Ask {
+        };
+    }
+    if slot == LFE {
+        return Ask {
             name: lfe,
             role: Role::Plain,
             index: 0,
             width,
-        },
-        _ => Ask {
-            name: full,
-            role: Role::Plain,
-            index: slot as i16,
-            width,
-        },
+        };
+    }
+    Ask {
+        name: full,
+        role: Role::Plain,
+        index: slot as i16,
+        width,
     }
 }
 
@@ -256,7 +265,7 @@ fn begun(exp: &mut [u8], reader: Reader, slot: u8, start: usize) -> Run
     ensures { λ r. ⌜ ((log : List ℕ) → runOf r log (now (exp .exit)) ≡ thenRun (readerOf reader log) (λ abs st. ends st (taken (begunOf slot start (now (exp .entry)) abs)))) × (r .last ≤ 30) × (r .next ≤ 256) ⌝ }
 {
     let abs = reader.value as u8;
-    if slot == 5 {
+    if slot == CPL {
         return Run {
             reader,
             last: 2 * abs,
@@ -300,6 +309,17 @@ fn without(answer: Put, place: Place) -> Exponents
     Exponents { answer, place, set }
 }
 
+// No set: it is refused where the cursor stands.
+fn unread(why: Why, place: Place) -> Exponents
+    ensures { λ r. ⌜ ((log : List ℕ) → exponentsOf r log ≡ leaves (ends (standing place log) (refused (grounds (numberOf why) (place .pos))))) ⌝ }
+{
+    let r = Refusal {
+        why,
+        bit: place.pos,
+    };
+    without(Put::Refused(r), place)
+}
+
 // The set of what was laid: 9 where it ends before the range does.
 fn finished(exp: &[u8; 256], run: Run, start: usize, end: usize) -> Exponents
     ensures { λ r. ⌜ ((log : List ℕ) → exponentsOf r log ≡ finishOn start end (runOf run log (now (exp .entry)))) ⌝ }
@@ -311,11 +331,7 @@ fn finished(exp: &[u8; 256], run: Run, start: usize, end: usize) -> Exponents
         return without(answer, place);
     }
     if run.next < end {
-        let r = Refusal {
-            why: Why::SetTooShort,
-            bit: place.pos,
-        };
-        return without(Put::Refused(r), place);
+        return unread(Why::SetTooShort, place);
     }
     let set = ExpSet {
         exp: *exp,
@@ -341,11 +357,7 @@ pub fn read_exponents(
     let from = start.0;
     let to = end.0;
     if is_unfit(slot, strategy, from, to) {
-        let r = Refusal {
-            why: Why::BadArgument,
-            bit: place.pos,
-        };
-        return without(Put::Refused(r), place);
+        return unread(Why::BadArgument, place);
     }
     let g = size_of(strategy);
     let count = group_count(slot, g, from, to);

@@ -1,6 +1,6 @@
 -- `exponents::finished` meets its contract: each way through it is a case of the definition.
 -- Assumes nothing.
-use mathlib.Core.Path.{_∙_, refl}
+use mathlib.Core.Path.{_∙_}
 use borrow.Author.Needs.{needs}
 use Rattle.exponents.proofs.Ways.{exponents-is, finish-stays, finish-short, finish-done}
 use Rattle.exponents.proofs.finished.Statement.{statement}
@@ -16,8 +16,7 @@ returns c =
 returns-2 : tie.Need-returns-2
 returns-2 c =
     let a = c .before .before .before .before .before .before .before .args in
-    let r = c .without2 in
-    λ log. exponents-is (r .result) log (r .ensures .0) (r .ensures .1) (r .ensures .2)
+    λ log. c .unread .ensures log
     ∙ finish-short (a .start) (a .end) (a .run) log (a .exp .now) (c .before .before .before .enum-told2 .given .1) (c .before .if1 .taken)
 
 returns-3 : tie.Need-returns-3

@@ -5,15 +5,14 @@ use denote.Ref.{now}
 use native.Mathlib.Omega.{arith}
 use borrow.Author.Needs.{needs}
 use Rattle.syntax.specs.Reads.{standing}
-use Rattle.exponents.proofs.Ways.{fit-says, exponents-is, read-unfit, read-fit}
+use Rattle.exponents.proofs.Ways.{fit-says, read-unfit, read-fit}
 use Rattle.exponents.proofs.read_exponents.Statement.{statement}
 use Rattle.exponents.proofs.read_exponents.Tie as tie
 
 returns : tie.Need-returns
 returns c =
     let a = c .before .before .before .before .before .args in
-    let r = c .without in
-    exponents-is (r .result) (now (a .log)) (r .ensures .0) (r .ensures .1) (r .ensures .2)
+    c .unread .ensures (now (a .log))
     ∙ read-unfit (now (a .frame)) (standing (a .place) (now (a .log))) (a .slot) (a .strategy) (a .start .0) (a .end .0)
     (sym (c .before .before .is-unfit .ensures) ∙ c .before .if1 .taken)
 
@@ -42,11 +41,13 @@ groups-requires c κs =
 
 returns-2 : tie.Need-returns-2
 returns-2 c =
-    let a = c .before .before .before .before .before .before .before .before .before .before .before .before .before .before .before .before .before .before .before .before .before .args in
+    let s = c .before .before .before .before .before .before .before .before .before .before .before .before .before .before .before .before in
+    let u = s .before .before in
+    let a = u .before .before .before .args in
     c .finished .ensures _
     ∙ read-fit (now (a .frame)) (standing (a .place) (now (a .log))) (a .slot) (a .strategy) (a .start .0) (a .end .0)
-    (sym (c .before .before .before .before .before .before .before .before .before .before .before .before .before .before .before .before .before .before .is-unfit .ensures) ∙ c .before .before .before .before .before .before .before .before .before .before .before .before .before .before .before .before .before .if1 .left) _ _ _ _ _
-    (c .before .before .before .before .before .before .before .before .before .before .before .before .before .before .ask-of .ensures) (c .before .before .before .before .before .before .before .before .before .before .before .before .before .before .before .before .size-of .ensures .0) (c .before .before .before .before .before .before .before .before .before .before .before .before .before .before .before .group-count .ensures .0) (c .before .before .before .before .before .before .before .before .before .before .before .first .ensures .0) (c .before .before .before .before .before .groups .ensures)
+    (sym (u .is-unfit .ensures) ∙ s .before .if1 .left) _ _ _ _ _
+    (c .before .before .before .before .before .before .before .before .before .before .before .before .before .before .ask-of .ensures) (s .size-of .ensures .0) (c .before .before .before .before .before .before .before .before .before .before .before .before .before .before .before .group-count .ensures .0) (c .before .before .before .before .before .before .before .before .before .before .before .first .ensures .0) (c .before .before .before .before .before .groups .ensures)
 
 pub read-exponents-spec : {M : Type 1} → statement M
 read-exponents-spec =
