@@ -1,15 +1,14 @@
 -- Bits are conserved: any row of mantissa walks ends exactly where counting says. The theorem is `conserved`, at the end, over the
 -- definitions that the contracts of `conventional` and of `syntax::close_span` cite.
 -- Assumes nothing.
-use Prim.Native.Nat.{ℕ, _+_, _-_, _*_, _≤_}
+use Prim.Native.Nat.{ℕ, _+_, _-_, _≤_}
 use mathlib.Core.Path.{_≡_, refl, sym, _∙_, ap, subst}
 use mathlib.Core.Logic.{_↔_}
-use mathlib.Core.Bool.{false, _||_}
+use mathlib.Core.Bool.{false}
 use mathlib.Core.List.{List, [], _∷_, _++_, Perm, append-nil, append-assoc}
 use native.Mathlib.Omega.{arith}
-use native.Mathlib.Nat.{add-zero, add-assoc}
+use native.Mathlib.Nat.{add-zero}
 use lib.ListN.{length}
-use lib.Dec.{ltb}
 use Rattle.refusal.specs.Refusals.{Outcome, taken, refused, Ran, follow, thenRun}
 use Rattle.syntax.specs.declared.Role.{Role}
 use Rattle.syntax.specs.declared.Place.{Place}
@@ -18,7 +17,7 @@ use Rattle.syntax.proofs.Tests.{sound-limit, room-words}
 use Rattle.syntax.proofs.ReadLaws.{logged-length, close-inside, close-keeps}
 use Rattle.walks.specs.declared.Groups.{Groups}
 use Rattle.walks.specs.Walk.{State, state, going, unfitRange, unfitWalk, walkCodes, walkOf, Reachable}
-use Rattle.walks.specs.Row.{sumOf, bitsT, Walk, codesOf, Item, walk, close, Along, along, noGroups, itemOf, rowFrom, rowOf, endOf, AllPass, Passes, walksOf, metOf, codesIn, closings, Codes, Fit, Sound, Conserved}
+use Rattle.walks.specs.Row.{sumOf, bitsT, Walk, codesOf, Item, walk, close, Along, along, noGroups, itemOf, rowFrom, endOf, AllPass, Passes, walksOf, metOf, codesIn, closings, Codes, Fit, Sound, Conserved}
 use Rattle.walks.proofs.Laws.{groups-pass, walk-fit}
 use Rattle.walks.proofs.Counting.{costs, after, after-append, after-reachable, T-append, T-order}
 use Rattle.walks.proofs.Passing.{walk-passes, walk-within, walkOf-limit}

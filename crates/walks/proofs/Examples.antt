@@ -5,12 +5,11 @@ use mathlib.Core.Path.{_≡_, refl}
 use mathlib.Core.List.{List, [], _∷_, _++_, map}
 use lib.ListN.{length, replicate}
 use lib.IntN.{pos}
-use Rattle.refusal.specs.Refusals.{grounds, taken, refused, Ran}
+use Rattle.refusal.specs.Refusals.{taken, Ran}
 use Rattle.syntax.specs.declared.Place.{Place}
 use Rattle.syntax.specs.Reads.{Standing, standing}
-use Rattle.walks.specs.declared.Groups.{Groups}
 use Rattle.walks.specs.Walk.{State, state, stopped, width, cost, counted, mantissaOf, walkCodes, walkOf}
-use Rattle.walks.specs.Row.{sumOf, bitsT, Walk, Item, walk, Along, along, noGroups, itemOf, rowFrom, rowOf, endOf, metOf, codesIn}
+use Rattle.walks.specs.Row.{sumOf, bitsT, Item, walk, noGroups, itemOf, rowFrom, rowOf, endOf, metOf, codesIn}
 
 -- the codes of a channel, from bin 0 on; the other bins are 0
 abbrev channel : List ℕ → List ℕ

@@ -2,7 +2,7 @@
 -- tests of the arguments say.
 -- Assumes nothing.
 use Prim.Native.Nat.{ℕ, _+_, _%_, _≤_, _<_}
-use mathlib.Core.Path.{_≡_, refl, sym, _∙_, ap, subst}
+use mathlib.Core.Path.{_≡_, refl, sym, _∙_, ap}
 use mathlib.Core.Bool.{Bool, true, false, cond}
 use mathlib.Core.List.{List, [], _∷_}
 use native.Mathlib.Omega.{arith}
@@ -11,7 +11,7 @@ use native.Mathlib.Numerals.{add-one}
 use lib.Dec.{eqb, ltb}
 use lib.ListN.{length, getD}
 use lib.Seq.{slice, slice-cons, slice-empty}
-use borrow.Author.Tests.{ltb-false, lt-ltb, le-ltb, eq-eqb, ne-eqb}
+use borrow.Author.Tests.{ltb-false, lt-ltb, le-ltb, ne-eqb}
 use Rattle.refusal.specs.Refusals.{Grounds, Outcome, taken, refused, refuseIf, Ran, settle, thenRun}
 use Rattle.refusal.proofs.Laws.{run-stays}
 use Rattle.syntax.specs.declared.Place.{Place}
@@ -35,9 +35,14 @@ module _ (b : ℕ) (p : Place) (g : Groups) where
     unfolding mantissaOf
     mantissa-past z t = rw (le-ltb 15 b low, ← c, ← e, ne-eqb n 0 z, t)
 
-    pub mantissa-on : (n ≡ 0 → ⊥) → ltb (p .limit) (p .pos + n) ≡ false → going (state (ahead p n) h) ≡ mantissaOf b (state p g)
+    pub mantissa-on : ltb (p .limit) (p .pos + n) ≡ false → going (state (ahead p n) h) ≡ mantissaOf b (state p g)
     unfolding mantissaOf
-    mantissa-on z t = rw (le-ltb 15 b low, ← c, ← e, ne-eqb n 0 z, t)
+    mantissa-on t = rw (le-ltb 15 b low, ← c, ← e, t) (go (eqb n 0))
+      where
+        go : (u : Bool)
+            → going (state (ahead p n) h) ≡ settle (state p h) (state (ahead p n) h) (cond u (taken tt) (taken tt))
+        go true = refl
+        go false = refl
 
 -- counting leaves groups that a walk can leave
 pub counted-reachable : (b : ℕ) (g : Groups) → Reachable g → Reachable (counted g b)

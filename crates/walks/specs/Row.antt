@@ -1,4 +1,4 @@
--- A row of walks in one block, with spans closed between them, and T, the bits of its mantissas by counting. Theorem of demand 3.
+-- A row of walks in one block, with spans closed between them; T, the bits of its mantissas by counting; and what demand 3 says of both.
 -- Assumes nothing.
 use Prim.Native.Nat.{ℕ, _+_, _-_, _*_, _/_, _≤_}
 use mathlib.Core.Path.{_≡_}

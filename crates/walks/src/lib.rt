@@ -27,6 +27,12 @@ pub struct Walked {
     pub groups: Groups,
 }
 
+// What a mantissa costs, and the groups with it counted.
+struct Counted {
+    cost: u8,
+    groups: Groups,
+}
+
 // A mantissa's bits by its code; those of codes 1, 2 and 4 are their group's.
 const WIDTHS: [u8; 16] = [0, 0, 0, 3, 0, 4, 5, 6, 7, 8, 9, 10, 11, 12, 14, 16];
 
@@ -46,41 +52,40 @@ fn share_of(n: u8, bits: u8) -> u8
     if n == 0 { bits } else { 0 }
 }
 
-// The bits that a mantissa takes.
-fn cost_of(b: u8, g: Groups) -> u8
-    requires { ⌜ b < 16 ⌝ }
-    ensures { λ r. ⌜ r ≡ cost g b ⌝ }
+// The bits that a mantissa takes, and the groups with it counted: one match for both, since a code's branch is seldom foreseen.
+fn counted_in(b: u8, g: Groups) -> Counted
+    requires { ⌜ (b < 16) × Reachable g ⌝ }
+    ensures { λ r. ⌜ (r .cost ≡ cost g b) × (r .groups ≡ counted g b) ⌝ }
 {
     match b {
-        1 => share_of(g.g1, 5),
-        2 => share_of(g.g2, 7),
-        4 => share_of(g.g4, 7),
-        _ => width_of(b),
-    }
-}
-
-// The groups with one mantissa more.
-fn count_in(b: u8, g: Groups) -> Groups
-    requires { ⌜ Reachable g ⌝ }
-    ensures { λ r. ⌜ r ≡ counted g b ⌝ }
-{
-    match b {
-        1 => Groups {
-            g1: (g.g1 + 1) % 3,
-            g2: g.g2,
-            g4: g.g4,
+        1 => Counted {
+            cost: share_of(g.g1, 5),
+            groups: Groups {
+                g1: (g.g1 + 1) % 3,
+                g2: g.g2,
+                g4: g.g4,
+            },
         },
-        2 => Groups {
-            g1: g.g1,
-            g2: (g.g2 + 1) % 3,
-            g4: g.g4,
+        2 => Counted {
+            cost: share_of(g.g2, 7),
+            groups: Groups {
+                g1: g.g1,
+                g2: (g.g2 + 1) % 3,
+                g4: g.g4,
+            },
         },
-        4 => Groups {
-            g1: g.g1,
-            g2: g.g2,
-            g4: (g.g4 + 1) % 2,
+        4 => Counted {
+            cost: share_of(g.g4, 7),
+            groups: Groups {
+                g1: g.g1,
+                g2: g.g2,
+                g4: (g.g4 + 1) % 2,
+            },
         },
-        _ => g,
+        _ => Counted {
+            cost: width_of(b),
+            groups: g,
+        },
     }
 }
 
@@ -114,20 +119,27 @@ fn mantissa(b: u8, place: Place, g: Groups) -> Walked
     if 15 < b {
         return refused(Why::PointerAbove, place, g);
     }
-    let n = cost_of(b, g) as usize;
-    let groups = count_in(b, g);
-    if n == 0 {
-        return Walked {
-            answer: Put::Done,
-            place,
-            groups,
-        };
-    }
+    let c = counted_in(b, g);
+    let n = c.cost as usize;
+    let groups = c.groups;
     if passes(place, n) {
+        if n == 0 {
+            return Walked {
+                answer: Put::Done,
+                place,
+                groups,
+            };
+        }
         return past_limit(place, groups);
     }
-    let mut next = place;
-    next.pos = place.pos + n;
+    let pos = place.pos + n;
+    // Written out, since a copy of the struct would drag its padding through every turn of the loop.
+    let next = Place {
+        pos,
+        limit: place.limit,
+        block: place.block,
+        count: place.count,
+    };
     Walked {
         answer: Put::Done,
         place: next,

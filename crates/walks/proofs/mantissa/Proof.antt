@@ -5,6 +5,9 @@ use mathlib.Core.Path.{_∙_, sym}
 use borrow.Author.Tests.{ltb-false}
 use borrow.Author.Needs.{needs}
 use native.Mathlib.Omega.{arith}
+use mir.Syntax.{w8}
+use mir.Val.{SFits}
+use mir.Facts.{toZ-ofZ}
 use Rattle.walks.proofs.Laws.{mantissa-above, mantissa-free, mantissa-past, mantissa-on}
 use Rattle.walks.proofs.mantissa.Statement.{statement}
 use Rattle.walks.proofs.mantissa.Tie as tie
@@ -16,31 +19,30 @@ returns c =
 
 returns-2 : tie.Need-returns-2
 returns-2 c =
-    let a = c .before .before .before .before .args in
-    mantissa-free (a .b) (a .place) (a .g) _ _ (c .before .before .before .if1 .left) (c .before .before .cost-of .ensures) (c .before .count-in .ensures)
-    (c .if2 .taken)
+    let a = c .before .before .before .before .before .before .before .args in
+    let e = c .before .before .before .before .before .counted-in .ensures in
+    mantissa-free (a .b) (a .place) (a .g) _ _ (c .before .before .before .before .before .before .if1 .left) (e .0) (e .1) (c .if3 .taken)
 
 returns-3 : tie.Need-returns-3
 returns-3 c =
-    let f = c .before .before in
-    let a = f .before .before .before .before .before .args in
+    let a = c .before .before .before .before .before .before .before .before .args in
+    let e = c .before .before .before .before .before .before .counted-in .ensures in
     c .past-limit .ensures
-    ∙ mantissa-past (a .b) (a .place) (a .g) _ _ (f .before .before .before .before .if1 .left) (f .before .before .before .cost-of .ensures)
-    (f .before .before .count-in .ensures) (f .before .if2 .left) (sym (f .passes .ensures) ∙ c .before .if3 .taken)
+    ∙ mantissa-past (a .b) (a .place) (a .g) _ _ (c .before .before .before .before .before .before .before .if1 .left) (e .0) (e .1) (c .before .if3 .left) (sym (c .before .before .before .passes .ensures) ∙ c .before .before .if2 .taken)
 
-add-next : tie.Need-add-next
-add-next c =
-    let f = c .before .before in
-    let a = f .before .before .before .before .before .args in
-    let l = ltb-false (a .place .limit) (a .place .pos + f .before .before .before .cost-of .result) (sym (f .passes .ensures) ∙ c .before .if3 .left) in
+add-pos : tie.Need-add-pos
+add-pos c =
+    let p = c .before .before .before .before .before .before .before .args .place in
+    let l = ltb-false (p .limit) (p .pos + c .before .before .before .before .before .counted-in .result .cost) (sym (c .before .before .passes .ensures) ∙ c .before .if2 .left) in
     omega arith
 
 returns-4 : tie.Need-returns-4
 returns-4 c =
-    let f = c .before .before in
-    let a = f .before .before .before .before .before .args in
-    mantissa-on (a .b) (a .place) (a .g) _ _ (f .before .before .before .before .if1 .left) (f .before .before .before .cost-of .ensures)
-    (f .before .before .count-in .ensures) (f .before .if2 .left) (sym (f .passes .ensures) ∙ c .before .if3 .left)
+    let a = c .before .before .before .before .before .before .before .before .args in
+    let e = c .before .before .before .before .before .before .counted-in .ensures in
+    let h : SFits w8 (a .place .block) = search needs in
+    rw (toZ-ofZ h)
+    (mantissa-on (a .b) (a .place) (a .g) _ _ (c .before .before .before .before .before .before .before .if1 .left) (e .0) (e .1) (sym (c .before .before .before .passes .ensures) ∙ c .before .before .if2 .left))
 
 pub mantissa-spec : {M : Type 1} → statement M
 mantissa-spec =
@@ -53,7 +55,6 @@ mantissa-spec =
     (λ c κs. search needs)
     returns-2
     (λ c κs. search needs)
-    (λ c κs. search needs)
     returns-3
-    add-next
+    add-pos
     returns-4)

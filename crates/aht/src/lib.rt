@@ -1,0 +1,456 @@
+// The AHT walk of one channel (TS E.2.4.2, E.2.4.4): gaqmod, the gain words, and the mantissas of all six blocks, bin by bin.
+//
+// Each step takes the walk so far and leaves it as it is where it is refused.
+use bits::Got;
+use refusal::Refusal;
+use refusal::Why;
+use syntax::Place;
+use syntax::is_unsound;
+use syntax::read_raw;
+use tables::Bin;
+use walks::is_unfit_range;
+ghost use mathlib.Core.Path.{_≡_};
+ghost use mathlib.Core.Bool.{cond};
+ghost use Prim.Native.Nat.{_+_, _-_, _*_, _^_, _≤_, _<_};
+ghost use lib.Dec.{eqb, ltb};
+ghost use lib.ListN.{length};
+ghost use lib.Seq.{slice};
+ghost use Rattle.refusal.specs.Refusals.{numberOf};
+ghost use Rattle.bits.specs.Bits.{bitsAt};
+ghost use Rattle.aht.specs.Aht.{tallyOf, tagsMost, reads, readOn, refuseOn, tagOn, gainedOn, mantissaOn, times, vectorWidth, gaqWidth, isActive, countActive, sections, compositeOn, wordOn, gainBits, binsOn, digit, meant, gainOf, gainAt, binOn, walkOn, modeOn, told, countedOf, unfitAht, ahtOf};
+
+// How an AHT walk ends: the tags of large mantissas that it met, or a refusal.
+pub enum Counted {
+    Tags(usize),
+    Refused(Refusal),
+}
+
+// What an AHT walk answers, and the place after it, taken or refused.
+pub struct AhtWalked {
+    pub answer: Counted,
+    pub place: Place,
+}
+
+// A walk so far: what it read last or its refusal, its place, and the tags that it met.
+struct Tally {
+    answer: Got,
+    place: Place,
+    tags: usize,
+}
+
+// The next n bits.
+fn read(frame: &[u8], n: u8, t: Tally) -> Tally
+    ensures { λ r. ⌜ tallyOf r ≡ readOn (now (frame .entry)) n (tallyOf t) ⌝ }
+{
+    let answer = t.answer;
+    if let Got::Refused(_) = answer {
+        return t;
+    }
+    let place = t.place;
+    let r = read_raw(frame, place, n as usize);
+    let got = r.answer;
+    let next = r.place;
+    Tally {
+        answer: got,
+        place: next,
+        tags: t.tags,
+    }
+}
+
+// The walk ends where it stands.
+fn refuse(why: Why, t: Tally) -> Tally
+    ensures { λ r. ⌜ tallyOf r ≡ refuseOn (numberOf why) (tallyOf t) ⌝ }
+{
+    let answer = t.answer;
+    if let Got::Refused(_) = answer {
+        return t;
+    }
+    let place = t.place;
+    let r = Refusal {
+        why,
+        bit: place.pos,
+    };
+    Tally {
+        answer: Got::Refused(r),
+        place,
+        tags: t.tags,
+    }
+}
+
+// One tag more.
+fn tag(t: Tally) -> Tally
+    requires { ⌜ t .tags < tagsMost ⌝ }
+    ensures { λ r. ⌜ tallyOf r ≡ tagOn (tallyOf t) ⌝ }
+{
+    let answer = t.answer;
+    if let Got::Refused(_) = answer {
+        return t;
+    }
+    let place = t.place;
+    let tags = t.tags + 1;
+    Tally {
+        answer,
+        place,
+        tags,
+    }
+}
+
+// Whether v was read last.
+fn is_value(t: Tally, v: u32) -> bool
+    ensures { λ r. ⌜ r ≡ reads (λ x. eqb x v) (tallyOf t) ⌝ }
+{
+    let answer = t.answer;
+    match answer {
+        Got::Value(x) => x == v,
+        Got::Refused(_) => false,
+    }
+}
+
+// Whether more than v was read last.
+fn is_above(t: Tally, v: u32) -> bool
+    ensures { λ r. ⌜ r ≡ reads (λ x. ltb v x) (tallyOf t) ⌝ }
+{
+    let answer = t.answer;
+    match answer {
+        Got::Value(x) => v < x,
+        Got::Refused(_) => false,
+    }
+}
+
+// The number of s bits whose top bit is 1 and the rest 0.
+fn top(s: u8) -> u32
+    requires { ⌜ (0 < s) × (s ≤ 16) ⌝ }
+    ensures { λ r. ⌜ r ≡ 2 ^ (s - 1) ⌝ }
+{
+    1 << (s - 1)
+}
+
+// A mantissa of s bits, and where it is the tag, the large one of l bits after it.
+fn gained(frame: &[u8], s: u8, l: u8, t: Tally) -> Tally
+    requires { ⌜ (0 < s) × (s ≤ 16) × (t .tags < tagsMost) ⌝ }
+    ensures { λ r. ⌜ tallyOf r ≡ gainedOn (now (frame .entry)) s l (tallyOf t) ⌝ }
+{
+    let a = read(frame, s, t);
+    if is_value(a, top(s)) {
+        return tag(read(frame, l, a));
+    }
+    a
+}
+
+// One mantissa of width m, by its gain.
+fn mantissa(frame: &[u8], m: u8, gain: u8, t: Tally) -> Tally
+    requires { ⌜ (3 ≤ m) × (m ≤ 16) × (t .tags < tagsMost) ⌝ }
+    ensures { λ r. ⌜ tallyOf r ≡ mantissaOn (now (frame .entry)) m gain (tallyOf t) ⌝ }
+{
+    if gain == 1 {
+        return read(frame, m, t);
+    }
+    if gain == 2 {
+        return gained(frame, m - 1, m - 1, t);
+    }
+    gained(frame, m - 2, m, t)
+}
+
+// The mantissas of one bin in all six blocks.
+fn six(frame: &[u8], m: u8, gain: u8, t: Tally) -> Tally
+    requires { ⌜ (3 ≤ m) × (m ≤ 16) × (t .tags + 6 ≤ tagsMost) ⌝ }
+    ensures { λ r. ⌜ tallyOf r ≡ times 6 (mantissaOn (now (frame .entry)) m gain) (tallyOf t) ⌝ }
+{
+    let mut u = t;
+    let mut i: usize = 0;
+    while i < 6 {
+        u = mantissa(frame, m, gain, u);
+        i += 1;
+    }
+    u
+}
+
+// Whether a bin has a gain.
+fn is_active(mode: u8, h: u8) -> bool
+    ensures { λ r. ⌜ r ≡ isActive mode h ⌝ }
+{
+    if h < 8 {
+        return false;
+    }
+    if mode < 2 {
+        return h < 12;
+    }
+    h < 17
+}
+
+// 1 for an active bin.
+fn one_if(active: bool) -> usize
+    ensures { λ r. ⌜ r ≡ cond active 1 0 ⌝ }
+{
+    if active { 1 } else { 0 }
+}
+
+// The active bins of a range.
+fn count_active(hebap: &[u8], start: usize, end: usize, mode: u8) -> usize
+    requires { ⌜ (start ≤ end) × (end ≤ 256) × (end ≤ length (now hebap)) ⌝ }
+    ensures { λ r. ⌜ (r ≡ countActive mode (slice start end (now (hebap .entry)))) × (r ≤ 256) ⌝ }
+{
+    let mut n: usize = 0;
+    let mut i = start;
+    while i < end {
+        n = n + one_if(is_active(mode, hebap[i]));
+        i += 1;
+    }
+    n
+}
+
+// The gain words that so many active bins have.
+fn words_of(mode: u8, n: usize) -> usize
+    requires { ⌜ n ≤ 256 ⌝ }
+    ensures { λ r. ⌜ r ≡ sections mode n ⌝ }
+{
+    if mode == 0 {
+        return 0;
+    }
+    if mode == 3 {
+        return (n + 2) / 3;
+    }
+    n
+}
+
+// A composite gain: 14 above 26.
+fn composite(frame: &[u8], t: Tally) -> Tally
+    ensures { λ r. ⌜ tallyOf r ≡ compositeOn (now (frame .entry)) (tallyOf t) ⌝ }
+{
+    let a = read(frame, 5, t);
+    if is_above(a, 26) {
+        return refuse(Why::GainAbove, a);
+    }
+    a
+}
+
+// One gain word.
+fn word(frame: &[u8], mode: u8, t: Tally) -> Tally
+    ensures { λ r. ⌜ tallyOf r ≡ wordOn (now (frame .entry)) mode (tallyOf t) ⌝ }
+{
+    if mode == 3 {
+        return composite(frame, t);
+    }
+    read(frame, 1, t)
+}
+
+// n gain words.
+fn words(frame: &[u8], mode: u8, n: usize, t: Tally) -> Tally
+    ensures { λ r. ⌜ tallyOf r ≡ times n (wordOn (now (frame .entry)) mode) (tallyOf t) ⌝ }
+{
+    let mut u = t;
+    let mut i: usize = 0;
+    while i < n {
+        u = word(frame, mode, u);
+        i += 1;
+    }
+    u
+}
+
+// Bits of a range that lies inside the frame.
+fn peek(frame: &[u8], pos: usize, n: usize) -> u32
+    requires { ⌜ (n ≤ 32) × (pos + n ≤ 8 * length (now frame)) ⌝ }
+    ensures { λ r. ⌜ r ≡ bitsAt (now (frame .entry)) pos n ⌝ }
+{
+    match bits::get(frame, pos, n) {
+        Got::Value(v) => v,
+        // Such a range is never refused.
+        Got::Refused(_) => 0,
+    }
+}
+
+// Digit k of three in base 3, the highest first.
+fn digit_of(v: u32, k: usize) -> u32
+    ensures { λ r. ⌜ r ≡ digit v k ⌝ }
+{
+    if k == 0 {
+        return v / 9;
+    }
+    if k == 1 {
+        return v % 9 / 3;
+    }
+    v % 3
+}
+
+// The gain that a digit means.
+fn meant_by(d: u32) -> u8
+    ensures { λ r. ⌜ r ≡ meant d ⌝ }
+{
+    if d == 0 {
+        return 1;
+    }
+    if d == 1 {
+        return 2;
+    }
+    4
+}
+
+// The gain of active bin k, in the gain words from bit base on.
+fn gain_of(frame: &[u8], mode: u8, base: usize, k: usize) -> u8
+    requires { ⌜ (mode < 4) × (base ≤ 32768) × (k ≤ 256) × (base + gainBits mode (k + 1) ≤ 8 * length (now frame)) ⌝ }
+    ensures { λ r. ⌜ r ≡ gainOf (now (frame .entry)) mode base k ⌝ }
+{
+    if mode == 0 {
+        return 1;
+    }
+    if mode == 3 {
+        let v = peek(frame, base + 5 * (k / 3), 5);
+        return meant_by(digit_of(v, k % 3));
+    }
+    if peek(frame, base + k, 1) == 1 {
+        return 2 * mode;
+    }
+    1
+}
+
+// The gain of a bin of hebap h, before which there are k active ones.
+fn gain_at(frame: &[u8], mode: u8, base: usize, k: usize, h: u8) -> u8
+    requires { ⌜ (mode < 4) × (base ≤ 32768) × (k ≤ 256) × (base + gainBits mode (k + cond (isActive mode h) 1 0) ≤ 8 * length (now frame)) ⌝ }
+    ensures { λ r. ⌜ r ≡ gainAt (now (frame .entry)) mode base k h ⌝ }
+{
+    if is_active(mode, h) {
+        return gain_of(frame, mode, base, k);
+    }
+    1
+}
+
+const VECTOR_WIDTHS: [u8; 8] = [0, 2, 3, 4, 5, 7, 8, 9];
+
+// The bits of a vector's index, by hebap.
+fn vector_width(h: u8) -> u8
+    requires { ⌜ h < 8 ⌝ }
+    ensures { λ r. ⌜ r ≡ vectorWidth h ⌝ }
+{
+    let i = h as usize;
+    VECTOR_WIDTHS[i]
+}
+
+const GAQ_WIDTHS: [u8; 12] = [3, 4, 5, 6, 7, 8, 9, 10, 11, 12, 14, 16];
+
+// The bits of a mantissa, by hebap from 8 on.
+fn gaq_width(h: u8) -> u8
+    requires { ⌜ (8 ≤ h) × (h ≤ 19) ⌝ }
+    ensures { λ r. ⌜ (r ≡ gaqWidth h) × (3 ≤ r) × (r ≤ 16) ⌝ }
+{
+    let i = (h - 8) as usize;
+    GAQ_WIDTHS[i]
+}
+
+// One bin: nothing, a vector's index, 13, or six mantissas.
+fn one_bin(frame: &[u8], mode: u8, base: usize, k: usize, h: u8, t: Tally) -> Tally
+    requires { ⌜ (mode < 4) × (base ≤ 32768) × (k ≤ 256) × (base + gainBits mode (k + cond (isActive mode h) 1 0) ≤ 8 * length (now frame)) × (t .tags + 6 ≤ tagsMost) ⌝ }
+    ensures { λ r. ⌜ tallyOf r ≡ binOn (now (frame .entry)) mode base k h (tallyOf t) ⌝ }
+{
+    if h == 0 {
+        return t;
+    }
+    if h < 8 {
+        return read(frame, vector_width(h), t);
+    }
+    if 19 < h {
+        return refuse(Why::PointerAbove, t);
+    }
+    let gain = gain_at(frame, mode, base, k, h);
+    six(frame, gaq_width(h), gain, t)
+}
+
+// The bins from start to end.
+fn walk_bins(
+    frame: &[u8],
+    hebap: &[u8],
+    start: usize,
+    end: usize,
+    mode: u8,
+    base: usize,
+    t: Tally,
+) -> Tally
+    requires { ⌜ (start ≤ end) × (end ≤ 256) × (end ≤ length (now hebap)) × (mode < 4) × (base ≤ 32768) × (t .tags ≤ 0) ⌝ }
+    requires { ⌜ base + gainBits mode (countActive mode (slice start end (now hebap))) ≤ 8 * length (now frame) ⌝ }
+    ensures { λ r. ⌜ tallyOf r ≡ walkOn (now (frame .entry)) mode base 0 (slice start end (now (hebap .entry))) (tallyOf t) ⌝ }
+{
+    let mut u = t;
+    let mut k: usize = 0;
+    let mut i = start;
+    while i < end {
+        let h = hebap[i];
+        u = one_bin(frame, mode, base, k, h, u);
+        k = k + one_if(is_active(mode, h));
+        i += 1;
+    }
+    u
+}
+
+// The gain words, then the bins.
+fn after_mode(frame: &[u8], hebap: &[u8], start: usize, end: usize, mode: u8, t: Tally) -> Tally
+    requires { ⌜ (start ≤ end) × (end ≤ 256) × (end ≤ length (now hebap)) × (mode < 4) × (t .tags ≤ 0) ⌝ }
+    requires { ⌜ (t .place .pos ≤ t .place .limit) × (t .place .limit ≤ 32768) × (t .place .limit ≤ 8 * length (now frame)) ⌝ }
+    ensures { λ r. ⌜ tallyOf r ≡ binsOn (now (frame .entry)) mode (slice start end (now (hebap .entry))) (tallyOf t) ⌝ }
+{
+    let base = t.place.pos;
+    let n = count_active(hebap, start, end, mode);
+    let u = words(frame, mode, words_of(mode, n), t);
+    let answer = u.answer;
+    if let Got::Refused(_) = answer {
+        return u;
+    }
+    walk_bins(frame, hebap, start, end, mode, base, u)
+}
+
+// gaqmod, and what follows it.
+fn walk_all(frame: &[u8], hebap: &[u8], start: usize, end: usize, begun: Tally) -> Tally
+    requires { ⌜ (start ≤ end) × (end ≤ 256) × (end ≤ length (now hebap)) × (begun .tags ≤ 0) ⌝ }
+    ensures { λ r. ⌜ tallyOf r ≡ modeOn (now (frame .entry)) (slice start end (now (hebap .entry))) (readOn (now (frame .entry)) 2 (tallyOf begun)) ⌝ }
+{
+    let t = read(frame, 2, begun);
+    let answer = t.answer;
+    match answer {
+        Got::Refused(_) => t,
+        Got::Value(v) => after_mode(frame, hebap, start, end, v as u8, t),
+    }
+}
+
+// What a walk comes to.
+fn tell(t: Tally) -> AhtWalked
+    ensures { λ r. ⌜ countedOf r ≡ told (tallyOf t) ⌝ }
+{
+    let answer = t.answer;
+    let place = t.place;
+    match answer {
+        Got::Value(_) => AhtWalked {
+            answer: Counted::Tags(t.tags),
+            place,
+        },
+        Got::Refused(r) => AhtWalked {
+            answer: Counted::Refused(r),
+            place,
+        },
+    }
+}
+
+// Whether a walk can't be asked for so: its place or its range.
+fn is_unfit(len: usize, place: Place, start: usize, end: usize) -> bool
+    ensures { λ r. ⌜ r ≡ unfitAht len place start end ⌝ }
+{
+    if is_unsound(len, place) {
+        return true;
+    }
+    is_unfit_range(start, end)
+}
+
+// Walks over one channel's mantissas of all six blocks in the bins from start to end: 6; then 1, 13 or 14 where it stands. It logs
+// nothing.
+pub fn aht(frame: &[u8], place: Place, hebap: &[u8; 256], start: Bin, end: Bin) -> AhtWalked
+    ensures { λ r. ⌜ countedOf r ≡ ahtOf (now (frame .entry)) place (now (hebap .entry)) (start .0) (end .0) ⌝ }
+{
+    let first = start.0;
+    let last = end.0;
+    let begun = Tally {
+        answer: Got::Value(0),
+        place,
+        tags: 0,
+    };
+    if is_unfit(frame.len(), place, first, last) {
+        return tell(refuse(Why::BadArgument, begun));
+    }
+    tell(walk_all(frame, hebap, first, last, begun))
+}
