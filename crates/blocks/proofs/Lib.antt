@@ -1,0 +1,4 @@
+pub mod Tests
+pub mod Cases
+pub mod Turns
+pub mod Unique

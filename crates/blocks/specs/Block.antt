@@ -1,0 +1,148 @@
+-- What `allocate_block` answers, for all inputs, by document 01's numbers and in its order (section "Allocation", "Order over a block").
+-- There is no cursor here, so a refusal's bit is 0.
+-- Assumes nothing.
+use Prim.Native.Nat.{ℕ, suc}
+use mathlib.Core.List.{List, [], _∷_}
+use mathlib.Core.Bool.{Bool, true, cond, not, _&&_, _||_}
+use lib.Dec.{ltb, leb, eqb}
+use lib.ListN.{getD, replicate}
+use Rattle.refusal.specs.Refusals.{Outcome, taken, refused, refuseIf, andThen, Ran, thenRun}
+use Rattle.bits.specs.Answers.{doneOf}
+use Rattle.tables.specs.declared.Delta.{Delta}
+use Rattle.tables.specs.declared.Pointers.{Pointers}
+use Rattle.tables.specs.declared.Pointers.the-variants as which
+use Rattle.tables.specs.Fits.{upto, tablesFit, deltaFits}
+use Rattle.alloc.specs.declared.Codes.{Codes}
+use Rattle.alloc.specs.declared.Leak.{Leak}
+use Rattle.alloc.specs.declared.Leak.the-variants as leak
+use Rattle.alloc.specs.Answers.{zeros, filled, allocateOf}
+use Rattle.blocks.specs.declared.AllocState.{AllocState}
+use Rattle.blocks.specs.declared.Slot.{Slot}
+use Rattle.blocks.specs.declared.Channel.{Channel}
+use Rattle.blocks.specs.declared.Allocated.{Allocated}
+
+-- "decays, slow gain, knee at most 3; floor 7"
+unfoldable pub baiFits : AllocState → Bool
+baiFits st = leb (st .sdcycod) 3 && (leb (st .fdcycod) 3 && (leb (st .sgaincod) 3 && (leb (st .dbpbcod) 3 && leb (st .floorcod) 7)))
+
+-- "leaks 7"
+unfoldable pub leakFits : AllocState → Bool
+leakFits st = leb (st .cplfleak) 7 && leb (st .cplsleak) 7
+
+-- "codes not yet sent aren't tested"
+abbrev pub ifSent : Bool → Bool → Bool
+ifSent sent fits = not sent || fits
+
+-- the five parameters, "csnroffst 63", and the leak
+unfoldable pub sentFit : AllocState → Bool
+sentFit st =
+    ifSent (st .«bai_sent») (baiFits st)
+    && (ifSent (st .«csnroffst_sent») (leb (st .csnroffst) 63)
+    && ifSent (st .«cplleak_sent») (leakFits st))
+
+-- "all others are, present slot or not": "fast gain 7; fsnroffst 15; fscod 2"
+unfoldable pub othersFit : AllocState → ℕ → Bool
+othersFit st fscod = upto 7 (st .fgaincod) 0 7 && (upto 15 (st .fsnroffst) 0 7 && leb fscod 2)
+
+-- "at most 8 segments, each 31, 15, 7", of every slot
+unfoldable pub deltasFit : List Delta → Bool
+deltasFit [] = true
+deltasFit (d ∷ ds) = deltaFits d && deltasFit ds
+
+-- no code is past its table
+unfoldable pub codesFit : AllocState → ℕ → Bool
+codesFit st fscod = sentFit st && (othersFit st fscod && deltasFit (st .delta))
+
+-- "every present slot's fsnroffst": of the slots from slot i on
+unfoldable pub quietFrom : List ℕ → ℕ → List Slot → Bool
+quietFrom fsnroffst i [] = true
+quietFrom fsnroffst i (s ∷ ss) = (not (s .present) || eqb (getD fsnroffst i 0) 0) && quietFrom fsnroffst (suc i) ss
+
+-- "If csnroffst and every present slot's fsnroffst are 0"
+unfoldable pub quiet : AllocState → List Slot → Bool
+quiet st slots = eqb (st .csnroffst) 0 && quietFrom (st .fsnroffst) 0 slots
+
+-- no segments
+abbrev pub noDelta : Delta
+noDelta = record { count = 0; offset = replicate 8 0; len = replicate 8 0; ba = replicate 8 0 }
+
+-- what slot i hands to its channel: its codes
+unfoldable pub codesAt : AllocState → ℕ → ℕ → Codes
+codesAt st fscod i =
+    record {
+      sdcycod = st .sdcycod;
+      fdcycod = st .fdcycod;
+      sgaincod = st .sgaincod;
+      dbpbcod = st .dbpbcod;
+      floorcod = st .floorcod;
+      fgaincod = getD (st .fgaincod) i 0;
+      csnroffst = st .csnroffst;
+      fsnroffst = getD (st .fsnroffst) i 0;
+      fscod = fscod;
+    }
+
+-- coupling's leak, and none for the others
+unfoldable pub leakAt : AllocState → ℕ → Leak
+leakAt st i = cond (eqb i 5) (leak.Codes (st .cplfleak) (st .cplsleak)) leak.None
+
+-- its segments: "LFE takes none"
+unfoldable pub deltaAt : AllocState → ℕ → Delta
+deltaAt st i = cond (eqb i 6) noDelta (getD (st .delta) i noDelta)
+
+-- hebap or bap
+unfoldable pub pointersBy : Bool → Pointers
+pointersBy high = cond high which.Hebap which.Bap
+
+-- 12: "exponent range doesn't cover the asked range"
+unfoldable pub uncovered : Slot → Bool
+uncovered s = ltb (s .start) (s .«exp_start») || ltb (s .«exp_end») (s .end)
+
+-- slot i: zeros where it is not present; else "12; 10 for leak", and the channel alone
+unfoldable pub slotOf : AllocState → ℕ → List ℕ → List ℕ → ℕ → Slot → Ran (List ℕ) Unit
+slotOf st fscod hearing logAdd i s =
+    cond (not (s .present)) (filled (taken zeros))
+    (thenRun
+    (filled
+    (refuseIf (uncovered s) 12 0
+    (refuseIf (eqb i 5 && not (st .«cplleak_sent»)) 10 0
+    (taken zeros))))
+    (λ _ _. allocateOf (s .exp) (s .start) (s .end) (codesAt st fscod i) (leakAt st i) (deltaAt st i) (pointersBy (s .high)) hearing logAdd))
+
+-- the state that a call left, where it was taken
+abbrev pub left : {S : Type 0} → Ran S Unit → Outcome S
+left r = andThen (r .outcome) (λ _. taken (r .state))
+
+abbrev pub channel : List ℕ → Channel
+channel bap = record { bap = bap }
+
+-- the slots from slot i on, in order: the first refusal ends them
+unfoldable pub slotsFrom : AllocState → ℕ → List ℕ → List ℕ → ℕ → List Slot → Outcome (List Channel)
+slotsFrom st fscod hearing logAdd i [] = taken []
+slotsFrom st fscod hearing logAdd i (s ∷ ss) =
+    andThen (left (slotOf st fscod hearing logAdd i s)) (λ bap.
+    andThen (slotsFrom st fscod hearing logAdd (suc i) ss) (λ rest.
+    taken (channel bap ∷ rest)))
+
+-- all slots zero
+abbrev pub silence : List Channel
+silence = replicate 7 (channel zeros)
+
+-- what an answer means, with the pointers beside it
+abbrev pub blockOf : Allocated → Ran (List Channel) Unit
+blockOf r = record { outcome = doneOf (r .answer); state = r .slot }
+
+-- the pointers that were taken, and zeros on refusal
+abbrev pub filledSlots : Outcome (List Channel) → Ran (List Channel) Unit
+filledSlots (taken slots) = record { outcome = taken tt; state = slots }
+filledSlots (refused g) = record { outcome = refused g; state = silence }
+
+-- 21; 11; 10 for csnroffst; 10 for the parameters; "all zero at once"; else the slots
+unfoldable pub allocateBlockOf : AllocState → ℕ → List Slot → List ℕ → List ℕ → Ran (List Channel) Unit
+allocateBlockOf st fscod slots hearing logAdd =
+    filledSlots
+    (refuseIf (not (tablesFit hearing logAdd)) 21 0
+    (refuseIf (not (codesFit st fscod)) 11 0
+    (refuseIf (not (st .«csnroffst_sent»)) 10 0
+    (refuseIf (not (st .«bai_sent»)) 10 0
+    (cond (quiet st slots) (taken silence)
+    (slotsFrom st fscod hearing logAdd 0 slots))))))

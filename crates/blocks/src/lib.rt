@@ -1,0 +1,415 @@
+// Side information and block allocation (TS 6.2.2; document 01, "Allocation"): what the blocks of a frame carry on, and the pointers of all
+// slots of a block. Slots 0 to 4 are the full bandwidth channels, 5 is coupling, 6 is LFE.
+use alloc::Codes;
+use alloc::Ended;
+use alloc::Leak;
+use bits::Put;
+use refusal::Refusal;
+use refusal::Why;
+use tables::Bin;
+use tables::Delta;
+use tables::Pointers;
+ghost use mathlib.Core.Path.{_≡_};
+ghost use Prim.Native.Nat.{_<_};
+ghost use mathlib.Core.Bool.{not, _&&_, _||_};
+ghost use lib.Dec.{ltb, eqb};
+ghost use Rattle.refusal.specs.Refusals.{numberOf, grounds, told, taken, refused as refusedOf};
+ghost use Rattle.alloc.specs.Answers.{allocatedOf, filled, zeros};
+ghost use Rattle.blocks.specs.Block.{baiFits, leakFits, ifSent, sentFit, othersFit, deltasFit, codesFit, quietFrom, quiet, noDelta, codesAt, leakAt, deltaAt, pointersBy, uncovered, slotOf, channel, blockOf, filledSlots, silence, slotsFrom, allocateBlockOf};
+
+// The side information that a frame's blocks carry on, by its names in TS, not yet decoded. Beside what may be unsent stands whether it
+// was sent: the five parameters, csnroffst, and the coupling leak. The segments are those of each slot.
+pub struct AllocState {
+    pub bai_sent: bool,
+    pub sdcycod: u8,
+    pub fdcycod: u8,
+    pub sgaincod: u8,
+    pub dbpbcod: u8,
+    pub floorcod: u8,
+    pub csnroffst_sent: bool,
+    pub csnroffst: u8,
+    pub fsnroffst: [u8; 7],
+    pub fgaincod: [u8; 7],
+    pub cplleak_sent: bool,
+    pub cplfleak: u8,
+    pub cplsleak: u8,
+    pub delta: [Delta; 7],
+}
+
+// What a block asks for a slot: whether it is there, whether its pointers are hebap, its exponents with their range, and the range asked for.
+pub struct Slot {
+    pub present: bool,
+    pub high: bool,
+    pub exp: [u8; 256],
+    pub exp_start: usize,
+    pub exp_end: usize,
+    pub start: usize,
+    pub end: usize,
+}
+
+// One entry a slot, so that none comes twice.
+pub struct Slots {
+    pub slot: [Slot; 7],
+}
+
+// The pointers of a slot.
+pub struct Channel {
+    pub bap: [u8; 256],
+}
+
+// The pointers of all slots: zeros for one that is not there, and all zeros on refusal.
+pub struct Allocated {
+    pub answer: Put,
+    pub slot: [Channel; 7],
+}
+
+// Whether the five parameters are in their tables.
+fn bai_fits(state: AllocState) -> bool
+    ensures { λ r. ⌜ r ≡ baiFits state ⌝ }
+{
+    if state.sdcycod > 3 {
+        return false;
+    }
+    if state.fdcycod > 3 {
+        return false;
+    }
+    if state.sgaincod > 3 {
+        return false;
+    }
+    if state.dbpbcod > 3 {
+        return false;
+    }
+    state.floorcod <= 7
+}
+
+// Whether the coupling leak's codes are in their table.
+fn leak_fits(state: AllocState) -> bool
+    ensures { λ r. ⌜ r ≡ leakFits state ⌝ }
+{
+    if state.cplfleak > 7 {
+        return false;
+    }
+    state.cplsleak <= 7
+}
+
+// Whether a code fits, or was not sent.
+fn if_sent(sent: bool, fits: bool) -> bool
+    ensures { λ r. ⌜ r ≡ ifSent sent fits ⌝ }
+{
+    if sent {
+        return fits;
+    }
+    true
+}
+
+// Whether the codes that were sent are in their tables.
+fn sent_fit(state: AllocState) -> bool
+    ensures { λ r. ⌜ r ≡ sentFit state ⌝ }
+{
+    if !if_sent(state.bai_sent, bai_fits(state)) {
+        return false;
+    }
+    if !if_sent(state.csnroffst_sent, state.csnroffst <= 63) {
+        return false;
+    }
+    if_sent(state.cplleak_sent, leak_fits(state))
+}
+
+// Whether the codes that every slot has, and fscod, are in their tables.
+fn others_fit(state: AllocState, fscod: u8) -> bool
+    ensures { λ r. ⌜ r ≡ othersFit state fscod ⌝ }
+{
+    let gain = state.fgaincod;
+    if !tables::all_upto(&gain, 0, 7, 7) {
+        return false;
+    }
+    let fine = state.fsnroffst;
+    if !tables::all_upto(&fine, 0, 7, 15) {
+        return false;
+    }
+    fscod <= 2
+}
+
+// Whether every slot's segments are fit.
+fn deltas_fit(state: AllocState) -> bool
+    ensures { λ r. ⌜ r ≡ deltasFit (state .delta) ⌝ }
+{
+    let mut i: usize = 0;
+    while i < 7 {
+        if !tables::delta_fits(state.delta[i]) {
+            return false;
+        }
+        i += 1;
+    }
+    true
+}
+
+// Whether no code is past its table.
+fn codes_fit(state: AllocState, fscod: u8) -> bool
+    ensures { λ r. ⌜ r ≡ codesFit state fscod ⌝ }
+{
+    if !sent_fit(state) {
+        return false;
+    }
+    if !others_fit(state, fscod) {
+        return false;
+    }
+    deltas_fit(state)
+}
+
+// Whether a slot is not there, or has no fine offset.
+fn is_quiet(present: bool, fsnroffst: u8) -> bool
+    ensures { λ r. ⌜ r ≡ (not present || eqb fsnroffst 0) ⌝ }
+{
+    if present {
+        return fsnroffst == 0;
+    }
+    true
+}
+
+// Whether no slot that is there has a fine offset.
+fn quiet_slots(state: AllocState, slots: Slots) -> bool
+    ensures { λ r. ⌜ r ≡ quietFrom (state .fsnroffst) 0 (slots .slot) ⌝ }
+{
+    let mut i: usize = 0;
+    while i < 7 {
+        if !is_quiet(slots.slot[i].present, state.fsnroffst[i]) {
+            return false;
+        }
+        i += 1;
+    }
+    true
+}
+
+// Whether no offset is in use.
+fn all_quiet(state: AllocState, slots: Slots) -> bool
+    ensures { λ r. ⌜ r ≡ quiet state (slots .slot) ⌝ }
+{
+    if state.csnroffst == 0 {
+        return quiet_slots(state, slots);
+    }
+    false
+}
+
+// The codes of a slot.
+fn codes_of(state: AllocState, fscod: u8, i: usize) -> Codes
+    requires { ⌜ i < 7 ⌝ }
+    ensures { λ r. ⌜ r ≡ codesAt state fscod i ⌝ }
+{
+    let gain = state.fgaincod[i];
+    let fine = state.fsnroffst[i];
+    Codes {
+        sdcycod: state.sdcycod,
+        fdcycod: state.fdcycod,
+        sgaincod: state.sgaincod,
+        dbpbcod: state.dbpbcod,
+        floorcod: state.floorcod,
+        fgaincod: gain,
+        csnroffst: state.csnroffst,
+        fsnroffst: fine,
+        fscod: fscod,
+    }
+}
+
+// The leak that a slot begins with: coupling has one.
+fn leak_of(state: AllocState, i: usize) -> Leak
+    ensures { λ r. ⌜ r ≡ leakAt state i ⌝ }
+{
+    if i == 5 {
+        return Leak::Codes(state.cplfleak, state.cplsleak);
+    }
+    Leak::None
+}
+
+// No segments.
+fn no_delta() -> Delta
+    ensures { λ r. ⌜ r ≡ noDelta ⌝ }
+{
+    Delta {
+        count: 0,
+        offset: [0; 8],
+        len: [0; 8],
+        ba: [0; 8],
+    }
+}
+
+// The segments that apply to a slot: LFE takes none.
+fn delta_of(state: AllocState, i: usize) -> Delta
+    requires { ⌜ i < 7 ⌝ }
+    ensures { λ r. ⌜ r ≡ deltaAt state i ⌝ }
+{
+    if i == 6 {
+        return no_delta();
+    }
+    state.delta[i]
+}
+
+// Which pointers a slot has.
+fn pointers_of(high: bool) -> Pointers
+    ensures { λ r. ⌜ r ≡ pointersBy high ⌝ }
+{
+    if high {
+        return Pointers::Hebap;
+    }
+    Pointers::Bap
+}
+
+// Whether the exponents don't cover the range asked for.
+fn is_uncovered(slot: Slot) -> bool
+    ensures { λ r. ⌜ r ≡ uncovered slot ⌝ }
+{
+    if slot.exp_start > slot.start {
+        return true;
+    }
+    slot.exp_end < slot.end
+}
+
+// Whether a slot needs a leak that was not sent.
+fn lacks_leak(state: AllocState, i: usize) -> bool
+    ensures { λ r. ⌜ r ≡ (eqb i 5 && not (state .«cplleak_sent»)) ⌝ }
+{
+    if i == 5 {
+        return !state.cplleak_sent;
+    }
+    false
+}
+
+// A slot that is refused.
+fn refused_slot(why: Why) -> alloc::Allocated
+    ensures { λ r. ⌜ allocatedOf r ≡ filled (refusedOf (grounds (numberOf why) 0)) ⌝ }
+{
+    let bap: [u8; 256] = [0; 256];
+    let r = Refusal { why: why, bit: 0 };
+    alloc::Allocated {
+        answer: Ended::Refused(r),
+        bap: bap,
+    }
+}
+
+// A slot that is not there.
+fn absent_slot() -> alloc::Allocated
+    ensures { λ r. ⌜ allocatedOf r ≡ filled (taken zeros) ⌝ }
+{
+    let bap: [u8; 256] = [0; 256];
+    alloc::Allocated {
+        answer: Ended::Done,
+        bap: bap,
+    }
+}
+
+// One slot: 12 where its exponents don't cover the range, 10 for a leak not sent, then the channel alone.
+fn slot_of(
+    state: AllocState,
+    fscod: u8,
+    i: usize,
+    slot: Slot,
+    hearing: &[u16],
+    log_add: &[u8],
+) -> alloc::Allocated
+    requires { ⌜ i < 7 ⌝ }
+    ensures { λ r. ⌜ allocatedOf r ≡ slotOf state fscod (now (hearing .entry)) (now («log_add» .entry)) i slot ⌝ }
+{
+    if !slot.present {
+        return absent_slot();
+    }
+    if is_uncovered(slot) {
+        return refused_slot(Why::NotCovered);
+    }
+    if lacks_leak(state, i) {
+        return refused_slot(Why::NotSent);
+    }
+    let exp = slot.exp;
+    let codes = codes_of(state, fscod, i);
+    let leak = leak_of(state, i);
+    let delta = delta_of(state, i);
+    let which = pointers_of(slot.high);
+    alloc::allocate(
+        &exp,
+        Bin(slot.start),
+        Bin(slot.end),
+        codes,
+        leak,
+        delta,
+        which,
+        hearing,
+        log_add,
+    )
+}
+
+// A block with this answer and no pointers.
+fn without(answer: Put) -> Allocated
+    ensures { λ r. ⌜ (r .answer ≡ answer) × (r .slot ≡ silence) ⌝ }
+{
+    let zero = Channel { bap: [0; 256] };
+    Allocated {
+        answer: answer,
+        slot: [zero; 7],
+    }
+}
+
+// The slots in order, up to the first that is refused.
+fn slots_of(
+    state: AllocState,
+    fscod: u8,
+    slots: Slots,
+    hearing: &[u16],
+    log_add: &[u8],
+) -> Allocated
+    ensures { λ r. ⌜ blockOf r ≡ filledSlots (slotsFrom state fscod (now (hearing .entry)) (now («log_add» .entry)) 0 (slots .slot)) ⌝ }
+{
+    let zero = Channel { bap: [0; 256] };
+    let mut out = [zero; 7];
+    let mut i: usize = 0;
+    while i < 7 {
+        let one = slot_of(state, fscod, i, slots.slot[i], hearing, log_add);
+        let answer = one.answer;
+        if let Ended::Refused(r) = answer {
+            return without(Put::Refused(r));
+        }
+        let bap = one.bap;
+        let channel = Channel { bap: bap };
+        out[i] = channel;
+        i += 1;
+    }
+    Allocated {
+        answer: Put::Done,
+        slot: out,
+    }
+}
+
+// A block that is refused.
+fn refused(why: Why) -> Allocated
+    ensures { λ r. ⌜ blockOf r ≡ filledSlots (refusedOf (grounds (numberOf why) 0)) ⌝ }
+{
+    let r = Refusal { why: why, bit: 0 };
+    without(Put::Refused(r))
+}
+
+// The pointers of a block's slots: 21 for unfit tables, 11 for a code past its table, 10 for csnroffst or the parameters not sent; zeros where
+// no offset is in use; else slot by slot 12, 10 for the leak, and what the channel alone answers.
+pub fn allocate_block(
+    state: AllocState,
+    fscod: u8,
+    slots: Slots,
+    hearing: &[u16],
+    log_add: &[u8],
+) -> Allocated
+    ensures { λ r. ⌜ blockOf r ≡ allocateBlockOf state fscod (slots .slot) (now (hearing .entry)) (now («log_add» .entry)) ⌝ }
+{
+    if !tables::tables_fit(hearing, log_add) {
+        return refused(Why::BadTables);
+    }
+    if !codes_fit(state, fscod) {
+        return refused(Why::CodePastTable);
+    }
+    if !state.csnroffst_sent {
+        return refused(Why::NotSent);
+    }
+    if !state.bai_sent {
+        return refused(Why::NotSent);
+    }
+    if all_quiet(state, slots) {
+        return without(Put::Done);
+    }
+    slots_of(state, fscod, slots, hearing, log_add)
+}
