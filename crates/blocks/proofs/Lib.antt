@@ -1,4 +1,5 @@
 pub mod Tests
 pub mod Cases
 pub mod Turns
+pub mod SideLaws
 pub mod Unique

@@ -6,16 +6,23 @@ use alloc::Leak;
 use bits::Put;
 use refusal::Refusal;
 use refusal::Why;
+use syntax::Ask;
+use syntax::Place;
+use syntax::Reader;
+use syntax::Role;
+use syntax::names;
 use tables::Bin;
 use tables::Delta;
 use tables::Pointers;
 ghost use mathlib.Core.Path.{_≡_};
-ghost use Prim.Native.Nat.{_<_};
+ghost use Prim.Native.Nat.{_<_, _≤_, _+_};
 ghost use mathlib.Core.Bool.{not, _&&_, _||_};
 ghost use lib.Dec.{ltb, eqb};
-ghost use Rattle.refusal.specs.Refusals.{numberOf, grounds, told, taken, refused as refusedOf};
+ghost use Rattle.refusal.specs.Refusals.{numberOf, grounds, taken, refused as refusedOf, andThen, thenRun};
+ghost use Rattle.syntax.specs.Reads.{standing, seenOf, readerOf};
 ghost use Rattle.alloc.specs.Answers.{allocatedOf, filled, zeros};
 ghost use Rattle.blocks.specs.Block.{baiFits, leakFits, ifSent, sentFit, othersFit, deltasFit, codesFit, quietFrom, quiet, noDelta, codesAt, leakAt, deltaAt, pointersBy, uncovered, slotOf, channel, blockOf, filledSlots, silence, slotsFrom, allocateBlockOf};
+ghost use Rattle.blocks.specs.Side.{withDelta, toldOf, badCode, deltaCodeOf, fieldAsk, withSegment, segmentOf, segmentsOf, keptOf, readDeltaOf, over, gatheredOf, deltaReadOf};
 
 // The side information that a frame's blocks carry on, by its names in TS, not yet decoded. Beside what may be unsent stands whether it
 // was sent: the five parameters, csnroffst, and the coupling leak. The segments are those of each slot.
@@ -412,4 +419,235 @@ pub fn allocate_block(
         return without(Put::Done);
     }
     slots_of(state, fscod, slots, hearing, log_add)
+}
+
+// What a delta code or a reading of segments comes to, and the state after it.
+pub struct Told {
+    pub answer: Put,
+    pub state: AllocState,
+}
+
+// What reading a slot's segments answers, and the place and the state after it.
+pub struct DeltaRead {
+    pub answer: Put,
+    pub place: Place,
+    pub state: AllocState,
+}
+
+// A reader, and the segments that it has read so far.
+struct Gathered {
+    reader: Reader,
+    delta: Delta,
+}
+
+// The state with other segments for a slot.
+fn put_delta(state: AllocState, slot: usize, delta: Delta) -> AllocState
+    requires { ⌜ slot < 7 ⌝ }
+    ensures { λ r. ⌜ r ≡ withDelta state slot delta ⌝ }
+{
+    let mut s = state;
+    s.delta[slot] = delta;
+    s
+}
+
+// Whether a deltbae code is refused: there is nothing to keep in block 0, and none above 2.
+fn is_bad_code(code: u32, block0: bool) -> bool
+    ensures { λ r. ⌜ r ≡ badCode code block0 ⌝ }
+{
+    match code {
+        0 => block0,
+        1..=2 => false,
+        _ => true,
+    }
+}
+
+// A deltbae code that is refused: the state stays.
+fn refused_code(why: Why, state: AllocState) -> Told
+    ensures { λ r. ⌜ toldOf r ≡ record { outcome = refusedOf (grounds (numberOf why) 0); state = state } ⌝ }
+{
+    let r = Refusal { why: why, bit: 0 };
+    Told {
+        answer: Put::Refused(r),
+        state: state,
+    }
+}
+
+// A slot's deltbae code: 6 for the slot, then 15; 2 ends its segments, 0 and 1 leave them.
+pub fn delta_code(state: AllocState, slot: usize, code: u32, block0: bool) -> Told
+    ensures { λ r. ⌜ toldOf r ≡ deltaCodeOf state slot code block0 ⌝ }
+{
+    if slot > 6 {
+        return refused_code(Why::BadArgument, state);
+    }
+    if is_bad_code(code, block0) {
+        return refused_code(Why::BadDelta, state);
+    }
+    if code == 2 {
+        let s = put_delta(state, slot, no_delta());
+        return Told {
+            answer: Put::Done,
+            state: s,
+        };
+    }
+    Told {
+        answer: Put::Done,
+        state: state,
+    }
+}
+
+// An element of a slot's segments. Coupling has names of its own.
+fn field(name: u32, cpl_name: u32, width: usize, slot: usize) -> Ask
+    requires { ⌜ slot < 7 ⌝ }
+    ensures { λ r. ⌜ r ≡ fieldAsk name «cpl_name» width slot ⌝ }
+{
+    let index = slot as i16;
+    if slot == 5 {
+        return Ask {
+            name: cpl_name,
+            role: Role::Plain,
+            index: index,
+            width: width,
+        };
+    }
+    Ask {
+        name: name,
+        role: Role::Plain,
+        index: index,
+        width: width,
+    }
+}
+
+// A code as a byte.
+fn byte(v: u32) -> u8
+    requires { ⌜ v < 256 ⌝ }
+    ensures { λ r. ⌜ r ≡ v ⌝ }
+{
+    v as u8
+}
+
+// One segment more.
+fn put_segment(delta: Delta, offset: u8, len: u8, ba: u8) -> Delta
+    requires { ⌜ delta .count < 8 ⌝ }
+    ensures { λ r. ⌜ r ≡ withSegment delta offset len ba ⌝ }
+{
+    let mut d = delta;
+    let k = delta.count as usize;
+    d.offset[k] = offset;
+    d.len[k] = len;
+    d.ba[k] = ba;
+    d.count = delta.count + 1;
+    d
+}
+
+// Reads one segment more.
+fn segment(frame: &[u8], log: &mut [u32], w: Gathered, slot: usize) -> Gathered
+    requires { ⌜ (slot < 7) × (w .delta .count < 8) ⌝ }
+    ensures { λ r. ⌜ (gatheredOf r (now (log .exit)) ≡ thenRun (gatheredOf w (now (log .entry))) (λ d st. segmentOf (now (frame .entry)) slot d st)) × (r .delta .count ≡ w .delta .count + 1) ⌝ }
+{
+    let r = w.reader;
+    let d = w.delta;
+    let o = syntax::next(
+        frame,
+        log,
+        r,
+        field(names::DELTOFFST, names::CPLDELTOFFST, 5, slot),
+    );
+    let l = syntax::next(
+        frame,
+        log,
+        o,
+        field(names::DELTLEN, names::CPLDELTLEN, 4, slot),
+    );
+    let b = syntax::next(
+        frame,
+        log,
+        l,
+        field(names::DELTBA, names::CPLDELTBA, 3, slot),
+    );
+    let e = put_segment(d, byte(o.value), byte(l.value), byte(b.value));
+    Gathered {
+        reader: b,
+        delta: e,
+    }
+}
+
+// Reads n segments.
+fn segments(frame: &[u8], log: &mut [u32], reader: Reader, slot: usize, n: usize) -> Gathered
+    requires { ⌜ (slot < 7) × (n ≤ 8) ⌝ }
+    ensures { λ r. ⌜ gatheredOf r (now (log .exit)) ≡ segmentsOf (now (frame .entry)) slot n (over (readerOf reader (now (log .entry))) noDelta) ⌝ }
+{
+    let none = no_delta();
+    let mut w = Gathered {
+        reader: reader,
+        delta: none,
+    };
+    let mut k: usize = 0;
+    while k < n {
+        w = segment(frame, log, w, slot);
+        k += 1;
+    }
+    w
+}
+
+// The state with the segments that were read, or as it was where the reader was refused.
+fn kept(state: AllocState, slot: usize, w: Gathered) -> Told
+    requires { ⌜ slot < 7 ⌝ }
+    ensures { λ r. ⌜ toldOf r ≡ keptOf state slot (andThen (seenOf (w .reader .answer) (w .reader .value)) (λ _. taken (w .delta))) ⌝ }
+{
+    let reader = w.reader;
+    let answer = reader.answer;
+    if let Put::Refused(r) = answer {
+        return Told {
+            answer: Put::Refused(r),
+            state: state,
+        };
+    }
+    let d = w.delta;
+    let s = put_delta(state, slot, d);
+    Told {
+        answer: Put::Done,
+        state: s,
+    }
+}
+
+// Reads a slot's segments, deltnseg and one more than it says: 6 for the slot, then what a read is refused with.
+pub fn read_delta(
+    frame: &[u8],
+    log: &mut [u32],
+    place: Place,
+    state: AllocState,
+    slot: usize,
+) -> DeltaRead
+    ensures { λ r. ⌜ deltaReadOf r (now (log .exit)) ≡ readDeltaOf (now (frame .entry)) (standing place (now (log .entry))) state slot ⌝ }
+{
+    if slot > 6 {
+        let r = Refusal {
+            why: Why::BadArgument,
+            bit: place.pos,
+        };
+        return DeltaRead {
+            answer: Put::Refused(r),
+            place: place,
+            state: state,
+        };
+    }
+    let first = syntax::begin(place);
+    let nseg = syntax::next(
+        frame,
+        log,
+        first,
+        field(names::DELTNSEG, names::CPLDELTNSEG, 3, slot),
+    );
+    let n = (nseg.value as usize) + 1;
+    let w = segments(frame, log, nseg, slot, n);
+    let told = kept(state, slot, w);
+    let reader = w.reader;
+    let at = reader.place;
+    let answer = told.answer;
+    let after = told.state;
+    DeltaRead {
+        answer: answer,
+        place: at,
+        state: after,
+    }
 }

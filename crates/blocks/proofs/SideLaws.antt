@@ -1,0 +1,173 @@
+-- Laws of side information: the cases of a delta code, and what the sticky reader makes of a slot's segments.
+-- Assumes nothing.
+use Prim.Native.Nat.{ℕ, zero, suc, _+_, _^_, _<_, _≤_}
+use mathlib.Core.Path.{_≡_, refl, sym, ap, subst, _∙_}
+use mathlib.Core.List.{List}
+use mathlib.Core.Bool.{Bool, true, false}
+use native.Mathlib.Omega.{arith}
+use native.Mathlib.Numerals.{add-one}
+use borrow.Author.Tests.{lt-ltb, le-ltb, eq-eqb, ne-eqb}
+use Rattle.refusal.specs.declared.Refusal.{Refusal}
+use Rattle.refusal.specs.Refusals.{Grounds, Outcome, taken, refused, grounds, told, andThen, Ran, follow, thenRun}
+use Rattle.refusal.proofs.Laws.{run-stays}
+use Rattle.bits.specs.declared.Put.{Put}
+use Rattle.bits.specs.declared.Put.the-variants as put
+use Rattle.bits.specs.Answers.{doneOf}
+use Rattle.tables.specs.declared.Delta.{Delta}
+use Rattle.syntax.specs.declared.Ask.{Ask}
+use Rattle.syntax.specs.declared.Reader.{Reader}
+use Rattle.syntax.specs.Reads.{Standing, standing, seenOf, readerOf, shown, readOf, nextOf}
+use Rattle.syntax.proofs.Ends.{next-on}
+use Rattle.syntax.proofs.ReadLaws.{next-taken}
+use Rattle.blocks.specs.declared.AllocState.{AllocState}
+use Rattle.blocks.specs.declared.Told.{Told}
+use Rattle.blocks.specs.Block.{noDelta}
+use Rattle.blocks.specs.Side.{withDelta, toldOf, badCode, deltaCodeOf, nsegAsk, offstAsk, lenAsk, baAsk, withSegment, reached, segmentOf, segmentsOf, deltaOf, over, keptOf, Stood, stoodOf, readDeltaOf}
+
+-- the cases of a delta code
+module _ (st : AllocState) (slot code : ℕ) (block0 : Bool) where
+  pub code-6 : 6 < slot → _≡_ {A = Ran AllocState Unit} (record { outcome = refused (grounds 6 0); state = st }) (deltaCodeOf st slot code block0)
+  unfolding deltaCodeOf
+  code-6 h = rw (lt-ltb 6 slot h)
+
+  module _ (h : slot ≤ 6) where
+    pub code-15 : badCode code block0 ≡ true → _≡_ {A = Ran AllocState Unit} (record { outcome = refused (grounds 15 0); state = st }) (deltaCodeOf st slot code block0)
+    unfolding deltaCodeOf
+    code-15 b = rw (le-ltb 6 slot h, b)
+
+    module _ (b : badCode code block0 ≡ false) where
+      pub code-2 : code ≡ 2 → (s : AllocState) → s ≡ withDelta st slot noDelta
+          → _≡_ {A = Ran AllocState Unit} (record { outcome = taken tt; state = s }) (deltaCodeOf st slot code block0)
+      unfolding deltaCodeOf
+      code-2 k s e = rw (le-ltb 6 slot h, b, eq-eqb code 2 k) (λ i. record { outcome = taken tt; state = e i })
+
+      pub code-kept : (code ≡ 2 → ⊥) → _≡_ {A = Ran AllocState Unit} (record { outcome = taken tt; state = st }) (deltaCodeOf st slot code block0)
+      unfolding deltaCodeOf
+      code-kept k = rw (le-ltb 6 slot h, b, ne-eqb code 2 k)
+
+-- what follows a reader with something beside it
+over-then : {A B C : Type 0} (r : Ran Standing A) (b : B) (next : B → Standing → Ran Standing C) → thenRun (over r b) next ≡ thenRun r (λ _ st. next b st)
+over-then {A} {B} {C} r b next = go (r .outcome)
+  where
+    go : (o : Outcome A) → follow (andThen o (λ _. taken b)) (r .state) next ≡ follow o (r .state) (λ _ st. next b st)
+    go (taken a) = refl
+    go (refused g) = refl
+
+-- a reader's value, put beside it
+over-is : {B : Type 0} (r : Ran Standing ℕ) (f : ℕ → B) → over r (f (shown (r .outcome))) ≡ thenRun r (λ v st. reached (f v) st)
+over-is {B} r f = go (r .outcome)
+  where
+    go : (o : Outcome ℕ) → _≡_ {A = Ran Standing B} (record { outcome = andThen o (λ _. taken (f (shown o))); state = r .state })
+        (follow o (r .state) (λ v st. reached (f v) st))
+    go (taken v) = refl
+    go (refused g) = refl
+
+module _ (frame : List ℕ) where
+  -- what follows a reader's value and the next one's
+  then-next : {B : Type 0} (a : Ask) (r : Ran Standing ℕ) (f : ℕ → ℕ → Standing → Ran Standing B)
+      → thenRun (nextOf frame a r) (f (shown (r .outcome))) ≡ thenRun r (λ v st. thenRun (readOf frame st a) (f v))
+  unfolding nextOf
+  then-next {B} a r f = go (r .outcome)
+    where
+      go : (o : Outcome ℕ) → thenRun (follow o (r .state) (λ _ st. readOf frame st a)) (f (shown o))
+          ≡ follow o (r .state) (λ v st. thenRun (readOf frame st a) (f v))
+      go (taken v) = refl
+      go (refused g) = refl
+
+  module _ (slot : ℕ) where
+    abbrev third : Delta → ℕ → ℕ → Standing → Ran Standing Delta
+    third d o l st = thenRun (readOf frame st (baAsk slot)) (λ b st₁. reached (withSegment d o l b) st₁)
+
+    abbrev second : Delta → ℕ → Standing → Ran Standing Delta
+    second d o st = thenRun (readOf frame st (lenAsk slot)) (third d o)
+
+    -- three elements of the sticky reader are a segment
+    pub segment-is : (d e : Delta) (r a b c : Ran Standing ℕ) → a ≡ nextOf frame (offstAsk slot) r → b ≡ nextOf frame (lenAsk slot) a
+        → c ≡ nextOf frame (baAsk slot) b → e ≡ withSegment d (shown (a .outcome)) (shown (b .outcome)) (shown (c .outcome))
+        → over c e ≡ thenRun (over r d) (λ x st. segmentOf frame slot x st)
+    unfolding segmentOf
+    segment-is d e r a b c p q s t =
+        let o = shown (a .outcome) in
+        let l = shown (b .outcome) in
+        ap (λ (x : Delta). over c x) t
+        ∙ over-is c (withSegment d o l)
+        ∙ ap (λ (x : Ran Standing ℕ). thenRun x (λ v st. reached (withSegment d o l v) st)) s
+        ∙ then-next (baAsk slot) b (λ m v st. reached (withSegment d o m v) st)
+        ∙ ap (λ (x : Ran Standing ℕ). thenRun x (third d o)) q
+        ∙ then-next (lenAsk slot) a (third d)
+        ∙ ap (λ (x : Ran Standing ℕ). thenRun x (second d)) p
+        ∙ then-next (offstAsk slot) r (λ _. second d)
+        ∙ sym (over-then r d (λ x st. thenRun (readOf frame st (offstAsk slot)) (second x)))
+
+    -- one turn: one segment more
+    pub segments-again : (k : ℕ) (r t : Ran Standing Delta) → t ≡ segmentsOf frame slot k r
+        → thenRun t (λ d st. segmentOf frame slot d st) ≡ segmentsOf frame slot (k + 1) r
+    unfolding segmentsOf
+    segments-again k r t e = rw add-one (ap (λ (x : Ran Standing Delta). thenRun x (λ d st. segmentOf frame slot d st)) e)
+
+    -- a refused reading stays as it is
+    segments-stay : (n : ℕ) (r : Ran Standing Delta) {g : Grounds} → r .outcome ≡ refused g → segmentsOf frame slot n r ≡ r
+    unfolding segmentsOf
+    segments-stay zero r e = refl
+    segments-stay (suc n) r e =
+        ap (λ (x : Ran Standing Delta). thenRun x (λ d st. segmentOf frame slot d st)) (segments-stay n r e)
+        ∙ sym (run-stays (λ d st. segmentOf frame slot d st) refl e)
+
+    -- the segments that deltnseg announces
+    pub delta-is : (r : Ran Standing ℕ) (st : Standing) → r ≡ readOf frame st (nsegAsk slot)
+        → segmentsOf frame slot (shown (r .outcome) + 1) (over r noDelta) ≡ deltaOf frame slot st
+    unfolding deltaOf
+    delta-is r st e = counted (r .outcome) ∙ ap (λ (x : Ran Standing ℕ). thenRun x (λ n st₁. segmentsOf frame slot (n + 1) (reached noDelta st₁))) e
+      where
+        counted : (o : Outcome ℕ)
+            → segmentsOf frame slot (shown o + 1) (record { outcome = andThen o (λ _. taken noDelta); state = r .state })
+            ≡ follow o (r .state) (λ n st₁. segmentsOf frame slot (n + 1) (reached noDelta st₁))
+        counted (taken n) = refl
+        counted (refused g) = segments-stay 1 (record { outcome = refused g; state = r .state }) refl
+
+  -- an element that is asked for by an equal ask
+  pub asked : (x y : Ask) (p q : Ran Standing ℕ) → x ≡ y → p ≡ nextOf frame x q → p ≡ nextOf frame y q
+  asked x y p q e f = f ∙ ap (λ (z : Ask). nextOf frame z q) e
+
+  -- the first element that a reader reads
+  pub first-is : (a : Ask) (st : Standing) (r : Ran Standing ℕ) → r ≡ record { outcome = taken 0; state = st } → nextOf frame a r ≡ readOf frame st a
+  first-is a st r e = ap (λ (x : Ran Standing ℕ). nextOf frame a x) e ∙ next-on frame a (record { outcome = taken 0; state = st }) refl
+
+  -- what the reader shows has the element's bits
+  pub value-below : (a : Ask) (q : Ran Standing ℕ) (r : Reader) (log : List ℕ) (m : ℕ) → readerOf r log ≡ nextOf frame a q
+      → r .value ≡ shown (seenOf (r .answer) (r .value)) → 2 ^ a .width ≤ m → 0 < m → r .value < m
+  value-below a q r log m e v h z =
+      subst (λ (x : ℕ). x < m) (sym (v ∙ ap (λ (w : Ran Standing ℕ). shown (w .outcome)) e)) (go (nextOf frame a q .outcome) refl)
+    where
+      go : (o : Outcome ℕ) → nextOf frame a q .outcome ≡ o → shown (nextOf frame a q .outcome) < m
+      go (taken u) f =
+          let t = next-taken frame a q u f .3 .below in
+          subst (λ (x : Outcome ℕ). shown x < m) (sym f) (omega arith)
+      go (refused g) f = subst (λ (x : Outcome ℕ). shown x < m) (sym f) z
+
+-- the state after a reader, by its answer
+module _ (state : AllocState) (slot : ℕ) (d : Delta) (a : Put) (v : ℕ) where
+  pub kept-stays : {r : Refusal} → a ≡ put.Refused r
+      → _≡_ {A = Ran AllocState Unit} (record { outcome = told r; state = state }) (keptOf state slot (andThen (seenOf a v) (λ _. taken d)))
+  kept-stays e = ap (λ (x : Put). keptOf state slot (andThen (seenOf x v) (λ _. taken d))) (sym e)
+
+  pub kept-on : (s : AllocState) → s ≡ withDelta state slot d → a ≡ put.Done
+      → _≡_ {A = Ran AllocState Unit} (record { outcome = taken tt; state = s }) (keptOf state slot (andThen (seenOf a v) (λ _. taken d)))
+  kept-on s f e =
+      (λ i. record { outcome = taken tt; state = f i }) ∙ ap (λ (x : Put). keptOf state slot (andThen (seenOf x v) (λ _. taken d))) (sym e)
+
+-- the two ways of a reading
+module _ (frame : List ℕ) (st : Standing) (state : AllocState) (slot : ℕ) where
+  pub delta-6 : 6 < slot
+      → _≡_ {A = Ran Stood Unit} (record { outcome = refused (grounds 6 (st .place .pos)); state = record { standing = st; state = state } })
+      (readDeltaOf frame st state slot)
+  unfolding readDeltaOf
+  delta-6 h = rw (lt-ltb 6 slot h)
+
+  pub delta-done : slot ≤ 6 → (r : Ran Standing Delta) → r ≡ deltaOf frame slot st → (t : Told) → toldOf t ≡ keptOf state slot (r .outcome)
+      → _≡_ {A = Ran Stood Unit} (record { outcome = doneOf (t .answer); state = record { standing = r .state; state = t .state } })
+      (readDeltaOf frame st state slot)
+  unfolding readDeltaOf
+  delta-done h r e t k =
+      rw (le-ltb 6 slot h)
+      ((λ i. record { outcome = k i .outcome; state = record { standing = r .state; state = k i .state } }) ∙ ap (λ x. stoodOf state slot x) e)

@@ -1,0 +1,130 @@
+-- What `delta_code` and `read_delta` answer, for all inputs, by document 01's numbers: "Slot (6) is tested before 15", and "Allocation state
+-- changes only on success". A delta code has no cursor, so its refusal's bit is 0.
+-- Assumes nothing.
+use Prim.Native.Nat.{ℕ, zero, suc, _+_}
+use mathlib.Core.List.{List}
+use mathlib.Core.Bool.{Bool, cond, _&&_, _||_}
+use lib.Dec.{ltb, eqb}
+use lib.IntN.{pos}
+use lib.ListN.{set}
+use Rattle.refusal.specs.Refusals.{Outcome, taken, refused, grounds, refuseIf, andThen, Ran, settle, thenRun}
+use Rattle.bits.specs.Answers.{doneOf}
+use Rattle.syntax.specs.declared.Ask.{Ask}
+use Rattle.syntax.specs.declared.Role.the-variants as role
+use Rattle.syntax.specs.Reads.{Standing, standing, readerOf, readOf}
+use Rattle.tables.specs.declared.Delta.{Delta}
+use Rattle.blocks.specs.declared.AllocState.{AllocState}
+use Rattle.blocks.specs.declared.Told.{Told}
+use Rattle.blocks.specs.declared.Gathered.{Gathered}
+use Rattle.blocks.specs.declared.DeltaRead.{DeltaRead}
+use Rattle.blocks.specs.Block.{noDelta}
+
+-- the state with other segments for a slot
+abbrev pub withDelta : AllocState → ℕ → Delta → AllocState
+withDelta st slot d =
+    record {
+      «bai_sent» = st .«bai_sent»;
+      sdcycod = st .sdcycod;
+      fdcycod = st .fdcycod;
+      sgaincod = st .sgaincod;
+      dbpbcod = st .dbpbcod;
+      floorcod = st .floorcod;
+      «csnroffst_sent» = st .«csnroffst_sent»;
+      csnroffst = st .csnroffst;
+      fsnroffst = st .fsnroffst;
+      fgaincod = st .fgaincod;
+      «cplleak_sent» = st .«cplleak_sent»;
+      cplfleak = st .cplfleak;
+      cplsleak = st .cplsleak;
+      delta = set (st .delta) slot d;
+    }
+
+-- what an answer means, with the state after it
+abbrev pub toldOf : Told → Ran AllocState Unit
+toldOf r = record { outcome = doneOf (r .answer); state = r .state }
+
+-- 15: "deltbae 0 in block 0, or deltbae above 2"
+abbrev pub badCode : ℕ → Bool → Bool
+badCode code block0 = ltb 2 code || (eqb code 0 && block0)
+
+-- a deltbae code: 6 for the slot, then 15; 2 is no segments, 0 and 1 leave them
+unfoldable pub deltaCodeOf : AllocState → ℕ → ℕ → Bool → Ran AllocState Unit
+deltaCodeOf st slot code block0 =
+    settle st (cond (eqb code 2) (withDelta st slot noDelta) st)
+    (refuseIf (ltb 6 slot) 6 0
+    (refuseIf (badCode code block0) 15 0
+    (taken tt)))
+
+-- an element of a slot's segments, logged with the slot for its index; coupling has names of its own (`syntax`, src/names.rt)
+abbrev pub fieldAsk : ℕ → ℕ → ℕ → ℕ → Ask
+fieldAsk name cplName width slot = record { name = cond (eqb slot 5) cplName name; role = role.Plain; index = pos slot; width = width }
+
+-- deltnseg, deltoffst, deltlen, deltba: 3, 5, 4, 3 bits
+abbrev pub nsegAsk : ℕ → Ask
+nsegAsk slot = fieldAsk 16 20 3 slot
+
+abbrev pub offstAsk : ℕ → Ask
+offstAsk slot = fieldAsk 17 21 5 slot
+
+abbrev pub lenAsk : ℕ → Ask
+lenAsk slot = fieldAsk 18 22 4 slot
+
+abbrev pub baAsk : ℕ → Ask
+baAsk slot = fieldAsk 19 23 3 slot
+
+-- one segment more
+abbrev pub withSegment : Delta → ℕ → ℕ → ℕ → Delta
+withSegment d o l b =
+    record { count = d .count + 1; offset = set (d .offset) (d .count) o; len = set (d .len) (d .count) l; ba = set (d .ba) (d .count) b }
+
+-- what has been read so far
+abbrev pub reached : {A : Type 0} → A → Standing → Ran Standing A
+reached a st = record { outcome = taken a; state = st }
+
+-- reading one segment more
+unfoldable pub segmentOf : List ℕ → ℕ → Delta → Standing → Ran Standing Delta
+segmentOf frame slot d st =
+    thenRun (readOf frame st (offstAsk slot)) (λ o st₁.
+    thenRun (readOf frame st₁ (lenAsk slot)) (λ l st₂.
+    thenRun (readOf frame st₂ (baAsk slot)) (λ b st₃.
+    reached (withSegment d o l b) st₃)))
+
+-- n segments more
+unfoldable pub segmentsOf : List ℕ → ℕ → ℕ → Ran Standing Delta → Ran Standing Delta
+segmentsOf frame slot zero r = r
+segmentsOf frame slot (suc n) r = thenRun (segmentsOf frame slot n r) (λ d st. segmentOf frame slot d st)
+
+-- deltnseg, and one segment more than it says
+unfoldable pub deltaOf : List ℕ → ℕ → Standing → Ran Standing Delta
+deltaOf frame slot st = thenRun (readOf frame st (nsegAsk slot)) (λ n st₁. segmentsOf frame slot (n + 1) (reached noDelta st₁))
+
+-- the slot's segments are those that were read; where the reading was refused, the state is as it was
+abbrev pub keptOf : AllocState → ℕ → Outcome Delta → Ran AllocState Unit
+keptOf state slot (taken d) = record { outcome = taken tt; state = withDelta state slot d }
+keptOf state slot (refused g) = record { outcome = refused g; state = state }
+
+-- what a reading of segments leaves behind: the cursor's numbers and the log, and the state
+pub record Stood : Type 0 where
+  pub standing : Standing
+  pub state : AllocState
+
+abbrev pub stoodOf : AllocState → ℕ → Ran Standing Delta → Ran Stood Unit
+stoodOf state slot r =
+    record { outcome = keptOf state slot (r .outcome) .outcome; state = record { standing = r .state; state = keptOf state slot (r .outcome) .state } }
+
+-- 6 for the slot, at the cursor's bit; else the segments
+unfoldable pub readDeltaOf : List ℕ → Standing → AllocState → ℕ → Ran Stood Unit
+readDeltaOf frame st state slot =
+    stoodOf state slot
+    (thenRun {A = Unit} (settle st st (refuseIf (ltb 6 slot) 6 (st .place .pos) (taken tt))) (λ _ st₁. deltaOf frame slot st₁))
+
+-- what a reader means that gathers segments
+abbrev pub over : {A B : Type 0} → Ran Standing A → B → Ran Standing B
+over r b = record { outcome = andThen (r .outcome) (λ _. taken b); state = r .state }
+
+abbrev pub gatheredOf : Gathered → List ℕ → Ran Standing Delta
+gatheredOf w log = over (readerOf (w .reader) log) (w .delta)
+
+-- what an answer means, with all that stands after it
+abbrev pub deltaReadOf : DeltaRead → List ℕ → Ran Stood Unit
+deltaReadOf r log = record { outcome = doneOf (r .answer); state = record { standing = standing (r .place) log; state = r .state } }
