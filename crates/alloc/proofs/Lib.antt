@@ -1,4 +1,5 @@
 pub mod Cases
+pub mod Lives
 pub mod ParamLaws
 pub mod RangeLaws
 pub mod TableLaws

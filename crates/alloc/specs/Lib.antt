@@ -4,4 +4,5 @@ pub mod Clauses
 pub mod Excite
 pub mod Ranges
 pub mod Channel
+pub mod Lives
 pub mod Answers
