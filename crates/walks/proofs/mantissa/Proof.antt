@@ -1,13 +1,15 @@
 -- `walks::mantissa` meets its contract: each way through it is a case of the definition.
 -- Assumes nothing.
 use Prim.Native.Nat.{_+_}
-use mathlib.Core.Path.{_∙_, sym}
+use mathlib.Core.Path.{_∙_, sym, ap}
 use borrow.Author.Tests.{ltb-false}
 use borrow.Author.Needs.{needs}
 use native.Mathlib.Omega.{arith}
+use lib.IntN.{ℤ}
 use mir.Syntax.{w8}
 use mir.Val.{SFits}
 use mir.Facts.{toZ-ofZ}
+use Rattle.walks.specs.Walk.{state, going}
 use Rattle.walks.proofs.Laws.{mantissa-above, mantissa-free, mantissa-past, mantissa-on}
 use Rattle.walks.proofs.mantissa.Statement.{statement}
 use Rattle.walks.proofs.mantissa.Tie as tie
@@ -39,10 +41,10 @@ add-pos c =
 returns-4 : tie.Need-returns-4
 returns-4 c =
     let a = c .before .before .before .before .before .before .before .before .args in
-    let e = c .before .before .before .before .before .before .counted-in .ensures in
+    let q = c .before .before .before .before .before .before .counted-in in
     let h : SFits w8 (a .place .block) = search needs in
-    rw (toZ-ofZ h)
-    (mantissa-on (a .b) (a .place) (a .g) _ _ (c .before .before .before .before .before .before .before .if1 .left) (e .0) (e .1) (sym (c .before .before .before .passes .ensures) ∙ c .before .before .if2 .left))
+    ap (λ (k : ℤ). going (state (record { pos = a .place .pos + q .result .cost; limit = a .place .limit; block = k; count = a .place .count }) (q .result .groups))) (toZ-ofZ h)
+    ∙ mantissa-on (a .b) (a .place) (a .g) _ _ (c .before .before .before .before .before .before .before .if1 .left) (q .ensures .0) (q .ensures .1) (sym (c .before .before .before .passes .ensures) ∙ c .before .before .if2 .left)
 
 pub mantissa-spec : {M : Type 1} → statement M
 mantissa-spec =
