@@ -82,8 +82,10 @@ unfolding setOf groupsOf groupOf sizeOf groupCount allDigits running outside spr
 sizes = ((refl, refl), (refl, refl), refl)
 
 -- what is logged: slot 3 with its index, coupling with 0
-pub logs : (read 3 1 0 4 (0x57 ∷ 0xC0 ∷ []) .state .standing .log ≡ (1 ∷ 0 ∷ 0 ∷ 3 ∷ 0 ∷ 4 ∷ 5 ∷ 0 ∷ []) ++ (2 ∷ 0 ∷ 0 ∷ 3 ∷ 4 ∷ 7 ∷ 62 ∷ 0 ∷ []) ++ replicate 8 0)
-    × (read 5 1 10 13 (0xD4 ∷ 0xA0 ∷ []) .state .standing .log ≡ (3 ∷ 0 ∷ 0 ∷ 0 ∷ 0 ∷ 4 ∷ 13 ∷ 0 ∷ []) ++ (4 ∷ 0 ∷ 0 ∷ 0 ∷ 4 ∷ 7 ∷ 37 ∷ 0 ∷ []) ++ replicate 8 0)
+pub logs : (read 3 1 0 4 (0x57 ∷ 0xC0 ∷ []) .state .standing .log
+    ≡ (1 ∷ 0 ∷ 0 ∷ 3 ∷ 0 ∷ 4 ∷ 5 ∷ 0 ∷ []) ++ (2 ∷ 0 ∷ 0 ∷ 3 ∷ 4 ∷ 7 ∷ 62 ∷ 0 ∷ []) ++ replicate 8 0)
+    × (read 5 1 10 13 (0xD4 ∷ 0xA0 ∷ []) .state .standing .log
+    ≡ (3 ∷ 0 ∷ 0 ∷ 0 ∷ 0 ∷ 4 ∷ 13 ∷ 0 ∷ []) ++ (4 ∷ 0 ∷ 0 ∷ 0 ∷ 4 ∷ 7 ∷ 37 ∷ 0 ∷ []) ++ replicate 8 0)
 unfolding setOf groupsOf groupOf sizeOf groupCount allDigits running outside spread readOf fits written bitsAt bitAt
 logs = (refl, refl)
 

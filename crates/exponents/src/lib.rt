@@ -230,10 +230,11 @@ fn group(frame: &[u8], log: &mut [u32], exp: &mut [u8], run: Run, ask: Ask, g: u
     }
     let at = run.next;
     let last = put_three(exp, at, g, run.last, v);
+    let to = at + 3 * g;
     Run {
         reader: read,
         last,
-        next: at + 3 * g,
+        next: to,
     }
 }
 

@@ -1,7 +1,6 @@
 -- `exponents::is_off` meets its contract.
 -- Assumes nothing.
 use borrow.Author.Tests.{lt-ltb, le-ltb}
-use borrow.Author.Needs.{needs}
 use Rattle.exponents.proofs.is_off.Statement.{statement}
 use Rattle.exponents.proofs.is_off.Tie as tie
 

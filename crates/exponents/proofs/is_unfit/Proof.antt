@@ -1,7 +1,6 @@
 -- `exponents::is_unfit` meets its contract: its tests are those of the definition, in the same order.
 -- Assumes nothing.
 use borrow.Author.Tests.{lt-ltb, le-ltb, le-leb, lt-leb}
-use borrow.Author.Needs.{needs}
 use Rattle.exponents.proofs.is_unfit.Statement.{statement}
 use Rattle.exponents.proofs.is_unfit.Tie as tie
 

@@ -20,11 +20,14 @@ sub-c c = three-on-scale _ _ _ _ (c .before .pre .4) .2 .0
 returns : tie.Need-returns
 unfolding lastOf
 returns c =
-    let a = c .before .before .before .before .before .before .before .before .before .before .before .before .before .args in
-    let s = three-on-scale _ _ _ _ (c .before .before .before .before .before .before .before .before .before .before .before .before .before .pre .4) .2 in (
+    let r₃ = c .before .before in
+    let r₂ = r₃ .before .before .before .before in
+    let r₁ = r₂ .before .before .before .before in
+    let a = r₁ .before .before .before .args in
+    let s = three-on-scale _ _ _ _ (r₁ .before .before .before .pre .4) .2 in (
       refl,
       omega (arith, s .0, s .1),
-      three-laid (a .exp .now) _ _ _ (a .at) (a .g) (a .e) _ _ _ (c .before .before .before .before .before .before .before .before .before .before .put-run .ensures) (c .before .before .before .before .before .before .put-run2 .ensures) (c .before .before .put-run3 .ensures),
+      three-laid (a .exp .now) _ _ _ (a .at) (a .g) (a .e) _ _ _ (r₁ .put-run .ensures) (r₂ .put-run2 .ensures) (r₃ .put-run3 .ensures),
     )
 
 pub put-three-spec : {M : Type 1} → statement M

@@ -30,24 +30,28 @@ group-count-requires c κs =
 
 first-requires : tie.Need-first-requires
 first-requires c κs =
-    let a = c .before .before .before .before .before .before .before .before .before .args in
-    let f = fit-says (a .slot) (a .strategy) (a .start .0) (a .end .0) (sym (c .before .before .before .before .before .before .is-unfit .ensures) ∙ c .before .before .before .before .before .if1 .left) in
+    let i = c .before .before .before .before .before in
+    let a = i .before .before .before .before .args in
+    let f = fit-says (a .slot) (a .strategy) (a .start .0) (a .end .0) (sym (i .before .is-unfit .ensures) ∙ i .if1 .left) in
     omega (arith, f .some, f .bins)
 
 groups-requires : tie.Need-groups-requires
 groups-requires c κs =
     let w = c .before .before .before .before .before .first .ensures in
-    (w .1, w .2, c .before .before .before .before .before .before .before .before .before .before .size-of .ensures .2, c .before .before .before .before .before .before .before .before .before .group-count .ensures .1)
+    let k = c .before .before .before .before .before .before .before .before .before in
+    (w .1, w .2, k .before .size-of .ensures .2, k .group-count .ensures .1)
 
 returns-2 : tie.Need-returns-2
 returns-2 c =
-    let s = c .before .before .before .before .before .before .before .before .before .before .before .before .before .before .before .before in
+    let f = c .before .before .before .before .before .before .before .before .before .before .before in
+    let k = f .before .before .before .before in
+    let s = k .before in
     let u = s .before .before in
     let a = u .before .before .before .args in
     c .finished .ensures _
     ∙ read-fit (now (a .frame)) (standing (a .place) (now (a .log))) (a .slot) (a .strategy) (a .start .0) (a .end .0)
     (sym (u .is-unfit .ensures) ∙ s .before .if1 .left) _ _ _ _ _
-    (c .before .before .before .before .before .before .before .before .before .before .before .before .before .before .ask-of .ensures) (s .size-of .ensures .0) (c .before .before .before .before .before .before .before .before .before .before .before .before .before .before .before .group-count .ensures .0) (c .before .before .before .before .before .before .before .before .before .before .before .first .ensures .0) (c .before .before .before .before .before .groups .ensures)
+    (f .before .before .before .ask-of .ensures) (s .size-of .ensures .0) (k .group-count .ensures .0) (f .first .ensures .0) (c .before .before .before .before .before .groups .ensures)
 
 pub read-exponents-spec : {M : Type 1} → statement M
 read-exponents-spec =

@@ -1,6 +1,6 @@
 -- `exponents::stopped` meets its contract.
 -- Assumes nothing.
-use mathlib.Core.Path.{ap, _∙_}
+use mathlib.Core.Path.{ap}
 use borrow.Author.Needs.{needs}
 use Rattle.syntax.specs.declared.Reader.{Reader}
 use Rattle.bits.specs.Answers.{doneOf}
