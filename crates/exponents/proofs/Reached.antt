@@ -42,6 +42,12 @@ module _ (frame : List ℕ) (P : Standing → Type 0) (read : (st : Standing) (a
       then-keeps P (groupsOf frame (groupAsk slot) (firstOf slot abs) (groupCount slot (sizeOf strategy) start end) st₁) _
       (groups-keep (groupAsk slot) (firstOf slot abs) (groupCount slot (sizeOf strategy) start end) st₁ l) (λ vs st₂ m. m)))
 
+-- limit, block and the log's length are the same
+pub record Same (st s : Standing) : Type 0 where
+  pub limit : s .place .limit ≡ st .place .limit
+  pub block : s .place .block ≡ st .place .block
+  pub words : length (s .log) ≡ length (st .log)
+
 module _ (frame : List ℕ) (st : Standing) (slot strategy start end : ℕ) where
   pub exponents-reached : Reached st → Reached (readExponentsOf frame st slot strategy start end .state .standing)
   exponents-reached = exponents-keep frame Reached (read-reached frame) st slot strategy start end
@@ -49,14 +55,8 @@ module _ (frame : List ℕ) (st : Standing) (slot strategy start end : ℕ) wher
   pub exponents-room : Roomy st → Roomy (readExponentsOf frame st slot strategy start end .state .standing)
   exponents-room = exponents-keep frame Roomy (read-room frame) st slot strategy start end
 
-  -- limit, block and the log's length
-  pub record Same (s : Standing) : Type 0 where
-    pub limit : s .place .limit ≡ st .place .limit
-    pub block : s .place .block ≡ st .place .block
-    pub words : length (s .log) ≡ length (st .log)
-
-  pub exponents-same : Same (readExponentsOf frame st slot strategy start end .state .standing)
+  pub exponents-same : Same st (readExponentsOf frame st slot strategy start end .state .standing)
   exponents-same =
-      exponents-keep frame Same
+      exponents-keep frame (Same st)
       (λ s a k. let r = read-keeps frame s a in record { limit = r .limit ∙ k .limit; block = r .block ∙ k .block; words = r .len ∙ k .words })
       st slot strategy start end (record { limit = refl; block = refl; words = refl })
