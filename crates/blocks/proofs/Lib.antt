@@ -2,4 +2,5 @@ pub mod Tests
 pub mod Cases
 pub mod Turns
 pub mod SideLaws
+pub mod Tiled
 pub mod Unique

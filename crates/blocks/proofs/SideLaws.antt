@@ -75,10 +75,11 @@ module _ (frame : List ℕ) where
       go (refused g) = refl
 
   module _ (slot : ℕ) where
-    abbrev third : Delta → ℕ → ℕ → Standing → Ran Standing Delta
+    -- a segment's last element, with what was read before it, and its last two
+    abbrev pub third : Delta → ℕ → ℕ → Standing → Ran Standing Delta
     third d o l st = thenRun (readOf frame st (baAsk slot)) (λ b st₁. reached (withSegment d o l b) st₁)
 
-    abbrev second : Delta → ℕ → Standing → Ran Standing Delta
+    abbrev pub second : Delta → ℕ → Standing → Ran Standing Delta
     second d o st = thenRun (readOf frame st (lenAsk slot)) (third d o)
 
     -- three elements of the sticky reader are a segment

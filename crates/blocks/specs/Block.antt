@@ -21,11 +21,11 @@ use Rattle.blocks.specs.declared.Slot.{Slot}
 use Rattle.blocks.specs.declared.Channel.{Channel}
 use Rattle.blocks.specs.declared.Allocated.{Allocated}
 
--- "decays, slow gain, knee at most 3; floor 7"
+-- 11 for the five parameters: "decays, slow gain, knee at most 3", and the floor at most 7
 unfoldable pub baiFits : AllocState → Bool
 baiFits st = leb (st .sdcycod) 3 && (leb (st .fdcycod) 3 && (leb (st .sgaincod) 3 && (leb (st .dbpbcod) 3 && leb (st .floorcod) 7)))
 
--- "leaks 7"
+-- the leaks at most 7
 unfoldable pub leakFits : AllocState → Bool
 leakFits st = leb (st .cplfleak) 7 && leb (st .cplsleak) 7
 
@@ -33,14 +33,14 @@ leakFits st = leb (st .cplfleak) 7 && leb (st .cplsleak) 7
 abbrev pub ifSent : Bool → Bool → Bool
 ifSent sent fits = not sent || fits
 
--- the five parameters, "csnroffst 63", and the leak
+-- the five parameters, csnroffst at most 63, and the leak
 unfoldable pub sentFit : AllocState → Bool
 sentFit st =
     ifSent (st .«bai_sent») (baiFits st)
     && (ifSent (st .«csnroffst_sent») (leb (st .csnroffst) 63)
     && ifSent (st .«cplleak_sent») (leakFits st))
 
--- "all others are, present slot or not": "fast gain 7; fsnroffst 15; fscod 2"
+-- "all others are, present slot or not": each slot's fast gain at most 7, its fsnroffst at most 15, and fscod at most 2
 unfoldable pub othersFit : AllocState → ℕ → Bool
 othersFit st fscod = upto 7 (st .fgaincod) 0 7 && (upto 15 (st .fsnroffst) 0 7 && leb fscod 2)
 

@@ -7,7 +7,7 @@ use mathlib.Core.Bool.{Bool, cond, _&&_, _||_}
 use lib.Dec.{ltb, eqb}
 use lib.IntN.{pos}
 use lib.ListN.{set}
-use Rattle.refusal.specs.Refusals.{Outcome, taken, refused, grounds, refuseIf, andThen, Ran, settle, thenRun}
+use Rattle.refusal.specs.Refusals.{Outcome, taken, refused, refuseIf, andThen, Ran, settle, thenRun}
 use Rattle.bits.specs.Answers.{doneOf}
 use Rattle.syntax.specs.declared.Ask.{Ask}
 use Rattle.syntax.specs.declared.Role.the-variants as role

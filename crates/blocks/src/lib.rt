@@ -17,11 +17,11 @@ use tables::Pointers;
 ghost use mathlib.Core.Path.{_≡_};
 ghost use Prim.Native.Nat.{_<_, _≤_, _+_};
 ghost use mathlib.Core.Bool.{not, _&&_, _||_};
-ghost use lib.Dec.{ltb, eqb};
+ghost use lib.Dec.{eqb};
 ghost use Rattle.refusal.specs.Refusals.{numberOf, grounds, taken, refused as refusedOf, andThen, thenRun};
 ghost use Rattle.syntax.specs.Reads.{standing, seenOf, readerOf};
 ghost use Rattle.alloc.specs.Answers.{allocatedOf, filled, zeros};
-ghost use Rattle.blocks.specs.Block.{baiFits, leakFits, ifSent, sentFit, othersFit, deltasFit, codesFit, quietFrom, quiet, noDelta, codesAt, leakAt, deltaAt, pointersBy, uncovered, slotOf, channel, blockOf, filledSlots, silence, slotsFrom, allocateBlockOf};
+ghost use Rattle.blocks.specs.Block.{baiFits, leakFits, ifSent, sentFit, othersFit, deltasFit, codesFit, quietFrom, quiet, noDelta, codesAt, leakAt, deltaAt, pointersBy, uncovered, slotOf, blockOf, filledSlots, silence, slotsFrom, allocateBlockOf};
 ghost use Rattle.blocks.specs.Side.{withDelta, toldOf, badCode, deltaCodeOf, fieldAsk, withSegment, segmentOf, segmentsOf, keptOf, readDeltaOf, over, gatheredOf, deltaReadOf};
 
 // The side information that a frame's blocks carry on, by its names in TS, not yet decoded. Beside what may be unsent stands whether it
@@ -319,10 +319,12 @@ fn slot_of(
     if !slot.present {
         return absent_slot();
     }
-    if is_uncovered(slot) {
+    let uncovered = is_uncovered(slot);
+    let lacks = lacks_leak(state, i);
+    if uncovered {
         return refused_slot(Why::NotCovered);
     }
-    if lacks_leak(state, i) {
+    if lacks {
         return refused_slot(Why::NotSent);
     }
     let exp = slot.exp;
@@ -479,14 +481,14 @@ pub fn delta_code(state: AllocState, slot: usize, code: u32, block0: bool) -> To
     if slot > 6 {
         return refused_code(Why::BadArgument, state);
     }
+    let ended = put_delta(state, slot, no_delta());
     if is_bad_code(code, block0) {
         return refused_code(Why::BadDelta, state);
     }
     if code == 2 {
-        let s = put_delta(state, slot, no_delta());
         return Told {
             answer: Put::Done,
-            state: s,
+            state: ended,
         };
     }
     Told {

@@ -15,22 +15,20 @@ returns c =
 
 returns-2 : tie.Need-returns-2
 returns-2 c =
-    let a = c .before .before .before .before .args in
+    let a = c .before .before .before .before .before .before .args in
     c .refused-code2 .ensures
-    ∙ code-15 (a .state) (a .slot) (a .code) (a .block0) (c .before .before .before .if1 .left) (sym (c .before .before .is-bad-code .ensures) ∙ c .before .if2 .taken)
+    ∙ code-15 (a .state) (a .slot) (a .code) (a .block0) (c .before .before .before .before .before .if1 .left) (sym (c .before .before .is-bad-code .ensures) ∙ c .before .if2 .taken)
 
 returns-3 : tie.Need-returns-3
 returns-3 c =
-    let b = c .before .before .before in
-    let a = b .before .before .before .args in
-    code-2 (a .state) (a .slot) (a .code) (a .block0) (b .before .before .if1 .left) (sym (b .before .is-bad-code .ensures) ∙ b .if2 .left) (c .before .before .if3 .taken) _
-    (c .put-delta .ensures ∙ ap (λ (d : Delta). withDelta (a .state) (a .slot) d) (c .before .no-delta .ensures))
+    let a = c .before .before .before .before .before .before .args in
+    code-2 (a .state) (a .slot) (a .code) (a .block0) (c .before .before .before .before .before .if1 .left) (sym (c .before .before .is-bad-code .ensures) ∙ c .before .if2 .left) (c .if3 .taken) _
+    (c .before .before .before .put-delta .ensures ∙ ap (λ (d : Delta). withDelta (a .state) (a .slot) d) (c .before .before .before .before .no-delta .ensures))
 
 returns-4 : tie.Need-returns-4
 returns-4 c =
-    let b = c .before in
-    let a = b .before .before .before .args in
-    code-kept (a .state) (a .slot) (a .code) (a .block0) (b .before .before .if1 .left) (sym (b .before .is-bad-code .ensures) ∙ b .if2 .left) (c .if3 .left)
+    let a = c .before .before .before .before .before .before .args in
+    code-kept (a .state) (a .slot) (a .code) (a .block0) (c .before .before .before .before .before .if1 .left) (sym (c .before .before .is-bad-code .ensures) ∙ c .before .if2 .left) (c .if3 .left)
 
 pub delta-code-spec : {M : Type 1} → statement M
 delta-code-spec =
@@ -40,8 +38,8 @@ delta-code-spec =
     returns
     (λ c κs. search needs)
     (λ c κs. search needs)
+    (λ c κs. search needs)
+    (λ c κs. search needs)
     returns-2
-    (λ c κs. search needs)
-    (λ c κs. search needs)
     returns-3
     returns-4)

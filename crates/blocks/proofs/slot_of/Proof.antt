@@ -16,33 +16,33 @@ returns c =
 
 returns-2 : tie.Need-returns-2
 returns-2 c =
-    let f = c .before .before .before in
+    let f = c .before .before .before .before in
     let a = f .before .before .before .before .args in
     c .refused-slot .ensures
     ∙ slot-12 (a .state) (a .fscod) (a .hearing .now) (a .log-add .now) (a .i) (a .slot) (not-false _ (f .if1 .left))
-    (sym (c .before .before .is-uncovered .ensures) ∙ c .before .if2 .taken)
+    (sym (c .before .before .before .is-uncovered .ensures) ∙ c .before .if2 .taken)
 
 returns-3 : tie.Need-returns-3
 returns-3 c =
-    let g = c .before .before .before in
-    let f = g .before .before in
+    let l = c .before .before .before in
+    let f = l .before .before in
     let a = f .before .before .before .before .args in
     c .refused-slot2 .ensures
     ∙ slot-10 (a .state) (a .fscod) (a .hearing .now) (a .log-add .now) (a .i) (a .slot) (not-false _ (f .if1 .left))
-    (sym (g .before .is-uncovered .ensures) ∙ g .if2 .left)
-    (sym (c .before .before .lacks-leak .ensures) ∙ c .before .if3 .taken)
+    (sym (l .before .is-uncovered .ensures) ∙ c .before .before .if2 .left)
+    (sym (l .lacks-leak .ensures) ∙ c .before .if3 .taken)
 
 returns-4 : tie.Need-returns-4
 returns-4 c =
     let p = c .before .before in
     let h = p .before .before .before .before .before in
-    let g = h .before .before in
-    let f = g .before .before in
+    let l = h .before .before in
+    let f = l .before .before in
     let a = f .before .before .before .before .args in
     c .allocate .ensures
     ∙ slot-alone (a .state) (a .fscod) (a .hearing .now) (a .log-add .now) (a .i) (a .slot) (not-false _ (f .if1 .left))
-    (sym (g .before .is-uncovered .ensures) ∙ g .if2 .left)
-    (sym (h .before .lacks-leak .ensures) ∙ h .if3 .left) _ _ _ _
+    (sym (l .before .is-uncovered .ensures) ∙ h .before .if2 .left)
+    (sym (l .lacks-leak .ensures) ∙ h .if3 .left) _ _ _ _
     (p .before .before .before .codes-of .ensures) (p .before .before .leak-of .ensures) (p .before .delta-of .ensures) (p .pointers-of .ensures)
 
 pub slot-of-spec : {M : Type 1} → statement M
@@ -53,8 +53,8 @@ slot-of-spec =
     returns
     (λ c κs. search needs)
     (λ c κs. search needs)
-    returns-2
     (λ c κs. search needs)
+    returns-2
     (λ c κs. search needs)
     returns-3
     (λ c κs. search needs)
