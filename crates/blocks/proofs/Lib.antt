@@ -3,4 +3,5 @@ pub mod Cases
 pub mod Turns
 pub mod SideLaws
 pub mod Tiled
+pub mod Order
 pub mod Unique
