@@ -1,2 +1,4 @@
 pub mod Fits
 pub mod Runs
+pub mod Tiled
+pub mod Unique

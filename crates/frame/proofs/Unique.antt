@@ -1,0 +1,38 @@
+-- For the public function, any two results that its contract allows are equal, with the log at exit.
+-- Assumes nothing.
+use mathlib.Core.Path.{_≡_, refl, ap, sym, _∙_}
+use contract.Lifetimes.{Lfts}
+use borrow.Fn.Kinds.{Dens, endedOf}
+use denote.Triple.Clauses.{AtExit}
+use denote.Ref.{now}
+use Rattle.refusal.specs.Refusals.{Outcome, taken, refused}
+use Rattle.refusal.proofs.Unique.{refusalOf, refusal-back, one-answer}
+use Rattle.syntax.specs.declared.Place.{Place}
+use Rattle.frame.specs.declared.Stretch.{Stretch}
+use Rattle.frame.specs.declared.Tail.{Tail}
+use Rattle.frame.specs.declared.Tail.the-variants as tail
+use Rattle.frame.specs.declared.Tailed.{Tailed}
+use Rattle.frame.specs.Tail.{userBitsOf}
+use Rattle.frame.proofs.read_tail.Kinds as read-tail-kinds
+use Rattle.frame.proofs.read_tail.Reads as read-tail-reads
+
+-- the answer's meaning leads back to it
+abbrev pub userBitsBack : Outcome Stretch → Tail
+userBitsBack (taken s) = tail.UserBits s
+userBitsBack (refused g) = tail.Refused (refusalOf g)
+
+pub user-bits-back : (t : Tail) → userBitsBack (userBitsOf t) ≡ t
+user-bits-back (tail.UserBits s) = refl
+user-bits-back (tail.Refused r) = ap tail.Refused (refusal-back r)
+
+tailed-same : (x y : Tailed) → userBitsOf (x .answer) ≡ userBitsOf (y .answer) → x .place ≡ y .place → x ≡ y
+tailed-same x y e f =
+    ap (λ (a : Tail). record { answer = a; place = x .place }) (one-answer userBitsOf userBitsBack user-bits-back (x .answer) (y .answer) e refl)
+    ∙ ap (λ (p : Place). record { answer = y .answer; place = p }) f
+
+-- any two results that the contract allows are equal; the contract is read from the code
+pub tail-one : (κs : Lfts 2) (a : Dens κs read-tail-kinds.ps) (x y : Tailed) (s t : AtExit (endedOf 2 read-tail-kinds.ps read-tail-kinds.r) κs)
+    → read-tail-reads.Post κs a x s → read-tail-reads.Post κs a y t → (x ≡ y) × (now (s .1 .0) ≡ now (t .1 .0))
+tail-one κs a x y s t p q =
+    let e = p ∙ sym q in
+    (tailed-same x y (ap (λ w. w .outcome) e) (ap (λ w. w .state .place) e), ap (λ w. w .state .log) e)
