@@ -14,6 +14,7 @@ use Rattle.refusal.proofs.Laws.{never}
 use Rattle.bits.specs.declared.Put.{Put}
 use Rattle.bits.specs.declared.Put.the-variants as put
 use Rattle.bits.specs.Answers.{doneOf}
+use Rattle.syntax.specs.declared.Place.{Place}
 use Rattle.syntax.specs.declared.Reader.{Reader}
 use Rattle.syntax.specs.declared.Moved.{Moved}
 use Rattle.syntax.specs.declared.Ask.{Ask}
@@ -178,7 +179,7 @@ module _ (frame : List ℕ) (st : Standing) (total : ℕ) (codec : Codec) where
   unfolding tailOf
   tail-stops e = rw e
 
-  pub tail-on : fitOf frame (length (st .log)) (st .place) total ≡ taken tt
-      → elementsOf frame total codec (standing (outside (st .place)) (st .log)) ≡ tailOf frame st total codec
+  pub tail-on : fitOf frame (length (st .log)) (st .place) total ≡ taken tt → {p : Place} → p ≡ outside (st .place)
+      → {r : Ran Standing Stretch} → r ≡ elementsOf frame total codec (standing p (st .log)) → r ≡ tailOf frame st total codec
   unfolding tailOf
-  tail-on e = rw e
+  tail-on e f h = h ∙ rw (e, f)

@@ -227,13 +227,14 @@ fn aux_length(frame: &[u8], log: &mut [u32], reader: Reader, aux: bool, width: u
 fn last_three(frame: &[u8], log: &mut [u32], reader: Reader, codec: Codec) -> Reader
     ensures { λ r. ⌜ readerOf r (now (log .exit)) ≡ thenRun (readerOf reader (now (log .entry))) (λ _ st. lastOf (now (frame .entry)) codec st) ⌝ }
 {
+    let rsv = reserved_name(codec);
     let a = next(
         frame,
         log,
         reader,
         ask_of(names::AUXDATAE, Role::AuxDataE, 1),
     );
-    let b = next(frame, log, a, ask_of(reserved_name(codec), Role::CrcRsv, 1));
+    let b = next(frame, log, a, ask_of(rsv, Role::CrcRsv, 1));
     next(frame, log, b, ask_of(names::CRC2, Role::Crc2, 16))
 }
 
@@ -287,7 +288,10 @@ pub fn read_tail(frame: &[u8], log: &mut [u32], place: Place, total: usize, code
     ensures { λ r. ⌜ tailedOf r (now (log .exit)) ≡ tailOf (now (frame .entry)) (standing place (now (log .entry))) total codec ⌝ }
 {
     match fit(frame, log.len(), place, total) {
-        Put::Done => elements(frame, log, outside_blocks(place), total, codec),
+        Put::Done => {
+            let outside = outside_blocks(place);
+            elements(frame, log, outside, total, codec)
+        }
         Put::Refused(r) => Tailed {
             answer: Tail::Refused(r),
             place,

@@ -1,6 +1,6 @@
 -- `frame::last_three` meets its contract: three elements of the sticky reader.
 -- Assumes nothing.
-use mathlib.Core.Path.{_≡_, ap, _∙_}
+use mathlib.Core.Path.{ap, _∙_}
 use denote.Ref.{now}
 use Prim.Native.Nat.{ℕ}
 use Rattle.syntax.specs.declared.Role.the-variants.{CrcRsv}
@@ -14,8 +14,8 @@ returns : tie.Need-returns
 returns c =
     let a = c .before .before .before .before .before .before .before .before .before .before .before .before .before .before .before .before .before .before .args in
     let f = now (a .frame) in
-    last-is f (a .codec) _ _ _ _ (asked f _ (c .before .before .before .before .before .before .before .before .before .before .before .before .before .before .ask-of .ensures) (c .before .before .before .before .before .before .before .before .before .before .before .before .before .next .ensures .0))
-    (asked f _ (c .before .before .before .before .before .before .before .before .ask-of2 .ensures ∙ ap (λ (n : ℕ). tailAsk n CrcRsv 1) (c .before .before .before .before .before .before .before .before .before .reserved-name .ensures)) (c .before .before .before .before .before .before .before .next2 .ensures .0))
+    last-is f (a .codec) _ _ _ _ (asked f _ (c .before .before .before .before .before .before .before .before .before .before .before .before .before .ask-of .ensures) (c .before .before .before .before .before .before .before .before .before .before .before .before .next .ensures .0))
+    (asked f _ (c .before .before .before .before .before .before .before .before .ask-of2 .ensures ∙ ap (λ (n : ℕ). tailAsk n CrcRsv 1) (c .before .before .before .before .before .before .before .before .before .before .before .before .before .before .before .reserved-name .ensures)) (c .before .before .before .before .before .before .before .next2 .ensures .0))
     (asked f _ (c .before .before .before .ask-of3 .ensures) (c .before .before .next3 .ensures .0))
 
 pub last-three-spec : {M : Type 1} → statement M

@@ -4,11 +4,11 @@ use mathlib.Core.Path.{ap, sym, subst, _∙_}
 use denote.Ref.{now}
 use native.Mathlib.Omega.{arith}
 use lib.ListN.{length}
-use Prim.Native.Nat.{ℕ, _+_, _≤_}
+use Prim.Native.Nat.{_+_, _≤_}
 use Rattle.bits.specs.Answers.{doneOf}
 use Rattle.syntax.specs.declared.Place.{Place}
 use Rattle.syntax.specs.Reads.{standing}
-use Rattle.frame.specs.Tail.{hasAux, behind, elementsOf}
+use Rattle.frame.specs.Tail.{hasAux, behind}
 use Rattle.frame.proofs.Fits.{fit-passed}
 use Rattle.frame.proofs.Runs.{tail-stops, tail-on}
 use borrow.Author.Needs.{needs}
@@ -21,15 +21,14 @@ elements-requires c κs =
     let a = f .before .before .before .args in
     let r = fit-passed (now (a .frame)) (length (now (a .log))) (a .place) (a .total) (sym (f .fit .ensures) ∙ ap doneOf (c .before .before .enum-told .given .1)) in
     let n = behind (hasAux (now (a .frame)) (a .total)) in
-    (omega (arith, r .last), r .fit .held, subst (λ (p : Place). p .pos + n ≤ a .total) (sym (c .outside-blocks .ensures)) (r .all))
+    (omega (arith, r .last), r .fit .held, subst (λ (p : Place). p .pos + n ≤ a .total) (sym (c .before .outside-blocks .ensures)) (r .all))
 
 returns : tie.Need-returns
 returns c =
     let f = c .before .before .before .before .before .before .before in
     let a = f .before .before .before .args in
-    c .before .before .elements .ensures
-    ∙ ap (λ (p : Place). elementsOf (now (a .frame)) (a .total) (a .codec) (standing p (now (a .log)))) (c .before .before .before .outside-blocks .ensures)
-    ∙ tail-on (now (a .frame)) (standing (a .place) (now (a .log))) (a .total) (a .codec) (sym (f .fit .ensures) ∙ ap doneOf (c .before .before .before .before .before .enum-told .given .1))
+    tail-on (now (a .frame)) (standing (a .place) (now (a .log))) (a .total) (a .codec) (sym (f .fit .ensures) ∙ ap doneOf (c .before .before .before .before .before .enum-told .given .1))
+    (c .before .before .before .before .outside-blocks .ensures) (c .before .before .elements .ensures)
 
 returns-2 : tie.Need-returns-2
 returns-2 c =
