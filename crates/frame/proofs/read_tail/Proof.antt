@@ -1,14 +1,12 @@
 -- `frame::read_tail` meets its contract: its tests, and then its elements.
 -- Assumes nothing.
-use mathlib.Core.Path.{ap, sym, subst, _∙_}
+use mathlib.Core.Path.{ap, sym, _∙_}
 use denote.Ref.{now}
 use native.Mathlib.Omega.{arith}
 use lib.ListN.{length}
-use Prim.Native.Nat.{_+_, _≤_}
 use Rattle.bits.specs.Answers.{doneOf}
 use Rattle.syntax.specs.declared.Place.{Place}
 use Rattle.syntax.specs.Reads.{standing}
-use Rattle.frame.specs.Tail.{hasAux, behind}
 use Rattle.frame.proofs.Fits.{fit-passed}
 use Rattle.frame.proofs.Runs.{tail-stops, tail-on}
 use borrow.Author.Needs.{needs}
@@ -20,8 +18,8 @@ elements-requires c κs =
     let f = c .before .before .before .before in
     let a = f .before .before .before .args in
     let r = fit-passed (now (a .frame)) (length (now (a .log))) (a .place) (a .total) (sym (f .fit .ensures) ∙ ap doneOf (c .before .before .enum-told .given .1)) in
-    let n = behind (hasAux (now (a .frame)) (a .total)) in
-    (omega (arith, r .last), r .fit .held, subst (λ (p : Place). p .pos + n ≤ a .total) (sym (c .before .outside-blocks .ensures)) (r .all))
+    let e = ap (λ (p : Place). p .pos) (c .before .outside-blocks .ensures) in
+    (omega (arith, r .last), r .fit .held, omega (arith, e, r .all))
 
 returns : tie.Need-returns
 returns c =
