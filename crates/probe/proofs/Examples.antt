@@ -2,10 +2,9 @@
 use Prim.Native.Nat.{ℕ}
 use mathlib.Core.Path.{_≡_, refl}
 use mathlib.Core.List.{List, [], _∷_}
-use Rattle.refusal.specs.Refusals.{Outcome, taken, refused, grounds}
+use Rattle.refusal.specs.Refusals.{taken, refused, grounds}
 use Rattle.bits.specs.Bits.{bitAt, bitsAt}
 use Rattle.probe.specs.declared.Codec.the-variants.{Ac3, Eac3}
-use Rattle.probe.specs.declared.Header.{Header}
 use Rattle.probe.specs.Probe.{rate, wordsOf, ac3Of, eac3Of, probeOf}
 
 -- six bytes of AC-3, with byte 4 given

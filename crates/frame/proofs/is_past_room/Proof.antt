@@ -5,7 +5,6 @@ use Prim.Native.Nat.{_/_, min}
 use borrow.Author.Tests.{lt-ltb}
 use native.Mathlib.Omega.{arith}
 use Rattle.syntax.proofs.Bools.{same-test}
-use borrow.Author.Needs.{needs}
 use Rattle.frame.proofs.is_past_room.Statement.{statement}
 use Rattle.frame.proofs.is_past_room.Tie as tie
 

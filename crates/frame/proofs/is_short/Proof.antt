@@ -5,7 +5,6 @@ use Prim.Native.Nat.{_+_, _-_}
 use borrow.Author.Tests.{lt-ltb}
 use native.Mathlib.Omega.{arith}
 use Rattle.syntax.proofs.Bools.{same-test}
-use borrow.Author.Needs.{needs}
 use Rattle.frame.proofs.is_short.Statement.{statement}
 use Rattle.frame.proofs.is_short.Tie as tie
 

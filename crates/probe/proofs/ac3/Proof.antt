@@ -1,9 +1,8 @@
 -- `probe::ac3` meets its contract: the two tests of the definition, then the rule.
 -- Assumes nothing.
-use mathlib.Core.Path.{_≡_, ap, sym}
+use mathlib.Core.Path.{ap}
 use denote.Ref.{now}
 use native.Mathlib.Omega.{arith}
-use Rattle.bits.specs.Bits.{bitsAt}
 use Rattle.bits.proofs.Laws.{bitsAt-lt}
 use Rattle.refusal.specs.Refusals.{taken}
 use Rattle.probe.specs.declared.Codec.the-variants.{Ac3}
