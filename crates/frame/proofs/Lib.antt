@@ -1,5 +1,6 @@
 pub mod Examples
 pub mod Fits
+pub mod Fixed
 pub mod Runs
 pub mod Tiled
 pub mod Unique
