@@ -1,0 +1,5 @@
+pub mod Answers
+pub mod Checks
+pub mod Elimination
+pub mod Parts
+pub mod Units
