@@ -9,7 +9,7 @@ use lib.Dec.{ltb, eqb}
 use lib.ListN.{length}
 use borrow.Author.Tests.{le-ltb, lt-ltb, ltb-false}
 use Rattle.refusal.specs.Refusals.{Grounds, grounds, taken, refused, Ran}
-use Rattle.repair.specs.declared.Codec.{Codec}
+use Rattle.probe.specs.declared.Codec.{Codec}
 use Rattle.repair.specs.Repair.{least, unfit, Checked, goodOf, crcStatusOf, repaired, repairOf}
 
 -- the first test that holds decides

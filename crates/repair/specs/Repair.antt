@@ -8,8 +8,8 @@ use lib.ListN.{length, getD, set, take, drop}
 use lib.Bits.{bitXor}
 use Rattle.refusal.specs.Refusals.{Outcome, taken, told, refuseIf, andThen, Ran, settle}
 use Rattle.crc.specs.Crc.{crcOf, crc1Of}
-use Rattle.repair.specs.declared.Codec.{Codec}
-use Rattle.repair.specs.declared.Codec.the-variants as codec
+use Rattle.probe.specs.declared.Codec.{Codec}
+use Rattle.probe.specs.declared.Codec.the-variants as codec
 use Rattle.repair.specs.declared.Status.{Status}
 use Rattle.repair.specs.declared.Status.the-variants as status
 

@@ -1,5 +1,6 @@
 // CRC status and repair of a frame (TS 102 366, 6.10.1 and 4.4.5.1).
 use bits::Put;
+use probe::Codec;
 use refusal::Refusal;
 use refusal::Why;
 ghost use mathlib.Core.Path.{_≡_};
@@ -10,12 +11,6 @@ ghost use Rattle.bits.specs.Answers.{putOf};
 ghost use Rattle.crc.specs.Crc.{crcOf, crc1Of, shift, idle};
 ghost use Rattle.repair.specs.Basis.{Linear, Columns, Places, Filled, Reduces};
 ghost use Rattle.repair.specs.Repair.{part, least, unfit, fiveEighths, crcTo, crc1Good, crc2Good, statusOf, goodOf, crcStatusOf, crc1For, putWord, flipped, withCrc1, withCrc2, settled, repaired, repairOf};
-
-// What a frame is.
-pub enum Codec {
-    Ac3,
-    Eac3,
-}
 
 // Whether the checksums are good: crc1 and crc2 of an AC-3 frame, or crc2 of an E-AC-3 frame, which has no crc1.
 pub enum Status {
