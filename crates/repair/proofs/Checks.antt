@@ -2,6 +2,7 @@
 -- Assumes nothing.
 use mathlib.Core.Path.{_≡_, refl, sym, ap, ap₂, _∙_}
 use mathlib.Core.Bool.{Bool, true, false, cond}
+use mathlib.Core.Logic.{_≢_}
 use mathlib.Core.List.{List, [], _∷_, _++_}
 use Prim.Native.Nat.{ℕ, _+_, _-_, _*_, _/_, _%_, _^_, _<_, _≤_}
 use native.Mathlib.Omega.{arith}
@@ -102,7 +103,7 @@ put-flipped s c h e z =
     crc2-as (flipped s) (length s) (bitXor c poly) (length-flipped s) (ap (λ (k : ℕ). bitXor k poly) e ∙ sym (crc-flipped s h))
     ∙ ap (λ (b : Bool). withCrc2 (cond b (flipped s) s)) (sym (eq-eqb (crcTo (length s - 2) s) 0x0B77 (sym e ∙ z)))
 
-pub put-plain : (s : List ℕ) (c : ℕ) → c ≡ crcTo (length s - 2) s → (c ≡ 0x0B77 → ⊥) → putWord s (length s - 2) c ≡ withCrc2 (settled s)
+pub put-plain : (s : List ℕ) (c : ℕ) → c ≡ crcTo (length s - 2) s → c ≢ 0x0B77 → putWord s (length s - 2) c ≡ withCrc2 (settled s)
 unfolding settled
 put-plain s c e z =
     crc2-as s (length s) c refl e ∙ ap (λ (b : Bool). withCrc2 (cond b (flipped s) s)) (sym (ne-eqb (crcTo (length s - 2) s) 0x0B77 (λ q. z (e ∙ q))))

@@ -3,7 +3,7 @@
 -- Assumes nothing.
 use mathlib.Core.Path.{_≡_, refl, sym, ap, ap₂, _∙_, subst}
 use mathlib.Core.Bool.{Bool, true, false}
-use mathlib.Core.Logic.{inl, inr, ⊎-elim}
+use mathlib.Core.Logic.{inl, inr, ⊎-elim, _≢_}
 use mathlib.Core.List.{List, [], _∷_}
 use Prim.Native.Nat.{ℕ, zero, suc, _+_, _-_, _*_, _/_, _%_, _^_, _<_, _≤_}
 use native.Mathlib.Nat.{mod-lt, not-suc-le-zero, pow-suc, one-mul, mod-eq-of-lt, mod-self, zero-mod, mul-comm, le-of-suc-le-suc, div-lt-iff-lt-mul, le-div-iff-mul-le, zero-mul, zero-add, suc-ne-zero, suc-inj, lt-irrefl, lt-suc-self}
@@ -68,7 +68,7 @@ module _ (L : ℕ → ℕ) (m v x : ℕ) where
     fall-stop vals h z = record { keeps = f .keeps; stops = inr (z, subst (λ (k : ℕ). k ≤ left) ep h, below-next); units = f .units; small = f .small }
 
     -- it leads with its bit, which what the place holds clears
-    pub fall-take : (vals combs : List ℕ) → Linear L → Places L m vals combs → at < 16 → p ≤ left → (getD vals at 0 ≡ 0 → ⊥)
+    pub fall-take : (vals combs : List ℕ) → Linear L → Places L m vals combs → at < 16 → p ≤ left → getD vals at 0 ≢ 0
         → Falling L m v x at (bitXor left (getD vals at 0)) (bitXor comb (getD combs at 0))
     fall-take vals combs lin held h k z =
         let a = getD vals at 0 in
@@ -83,7 +83,7 @@ module _ (L : ℕ → ℕ) (m v x : ℕ) where
         }
 
 -- a place that is filled is empty no more
-empties-set : (vs : List ℕ) (i v : ℕ) → i < length vs → getD vs i 0 ≡ 0 → (v ≡ 0 → ⊥) → suc (empties (set vs i v)) ≡ empties vs
+empties-set : (vs : List ℕ) (i v : ℕ) → i < length vs → getD vs i 0 ≡ 0 → v ≢ 0 → suc (empties (set vs i v)) ≡ empties vs
 empties-set [] i v h z n = absurd (not-suc-le-zero h)
 empties-set (zero ∷ vs) zero zero h z n = absurd (n refl)
 empties-set (zero ∷ vs) zero (suc v) h z n = refl
@@ -92,7 +92,7 @@ empties-set (zero ∷ vs) (suc i) v h z n = ap suc (empties-set vs i v (le-of-su
 empties-set (suc w ∷ vs) (suc i) v h z n = empties-set vs i v (le-of-suc-le-suc h) z n
 
 -- where none is empty, no place holds 0
-empties-none : (vs : List ℕ) (i : ℕ) → empties vs ≡ 0 → i < length vs → getD vs i 0 ≡ 0 → ⊥
+empties-none : (vs : List ℕ) (i : ℕ) → empties vs ≡ 0 → i < length vs → getD vs i 0 ≢ 0
 empties-none [] i e h z = not-suc-le-zero h
 empties-none (zero ∷ vs) i e h z = suc-ne-zero (empties vs) e
 empties-none (suc w ∷ vs) zero e h z = suc-ne-zero w z
@@ -112,7 +112,7 @@ held-less L m i v x h =
     }
 
 -- cases on whether two numbers are equal
-pub by-test : (P : Type 0) (i j : ℕ) (b : Bool) → eqb i j ≡ b → (i ≡ j → P) → ((i ≡ j → ⊥) → P) → P
+pub by-test : (P : Type 0) (i j : ℕ) (b : Bool) → eqb i j ≡ b → (i ≡ j → P) → (i ≢ j → P) → P
 by-test P i j true e f g = f (eqb-true i j e)
 by-test P i j false e f g = g (eqb-false i j e)
 
@@ -130,7 +130,7 @@ stored P vs cs at v x hv hc h p q i k =
 new-units : (x m : ℕ) → x % 2 ^ suc m ≡ 2 ^ m % 2 ^ suc m → x % 2 ^ m ≡ 0
 new-units x m e = sym (below-more x m) ∙ ap (λ (k : ℕ). k % 2 ^ m) e ∙ below-more (2 ^ m) m ∙ mod-self (2 ^ m)
 
-new-nonzero : (x m : ℕ) → x % 2 ^ suc m ≡ 2 ^ m % 2 ^ suc m → x ≡ 0 → ⊥
+new-nonzero : (x m : ℕ) → x % 2 ^ suc m ≡ 2 ^ m % 2 ^ suc m → x ≢ 0
 new-nonzero x m e z =
     let p : 2 ^ m ≡ 0 = sym (mod-eq-of-lt (pow-lt (lt-suc-self m))) ∙ sym e ∙ ap (λ (k : ℕ). k % 2 ^ suc m) z ∙ zero-mod (2 ^ suc m) in
     lt-irrefl 0 (subst (λ (k : ℕ). 0 < k) p (pow-pos m))
@@ -158,7 +158,7 @@ module _ (L : ℕ → ℕ) (lin : Linear L) where
     with-unit : r .comb % 2 ^ suc m ≡ 2 ^ m % 2 ^ suc m
     with-unit = f .units ∙ ap (λ (k : ℕ). k % 2 ^ suc m) eu
 
-    some : r .left ≡ 0 → ⊥
+    some : r .left ≢ 0
     some z = new-nonzero (r .comb) m with-unit (lin .kernel (r .comb) (f .small) (sym made ∙ z))
 
     stopped : (getD vals (r .at) 0 ≡ 0) × (2 ^ r .at ≤ r .left) × (r .left < 2 ^ suc (r .at))

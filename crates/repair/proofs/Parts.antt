@@ -1,13 +1,20 @@
 -- Parts of a frame, and what a store in it does to them.
 -- Assumes nothing.
 use mathlib.Core.Path.{_≡_, refl, sym, ap, ap₂, _∙_}
+use mathlib.Core.Logic.{_⊎_, inl, inr, ⊎-elim, _≢_}
 use mathlib.Core.List.{List, [], _∷_, _++_}
-use Prim.Native.Nat.{ℕ, zero, suc, _+_, _-_, _/_, _%_, _^_, _<_, _≤_}
-use native.Mathlib.Nat.{not-suc-le-zero, suc-inj, suc-add}
+use Prim.Native.Nat.{ℕ, zero, suc, _+_, _-_, _*_, _/_, _%_, _^_, _<_, _≤_}
+use native.Mathlib.Nat.{not-suc-le-zero, suc-inj, suc-add, mod-lt}
 use native.Mathlib.Omega.{arith}
+use lib.Dec.{eqb}
+use lib.Pow.{pow-pos, split}
 use lib.ListN.{length, getD, set, take, drop, length-set, length-drop}
-use lib.Seq.{drop-set-add, drop-set-lt, take-set-le, take-all, take-add, take-suc, drop-drop, getD-drop, getD-set-other}
+use lib.Seq.{drop-set-add, drop-set-lt, take-set-le, take-all, take-add, take-suc, drop-drop, getD-drop, getD-set-same, getD-set-other, set-getD}
+use Rattle.bits.specs.Bits.{bitAt}
+use Rattle.crc.proofs.Bytes.{high-lt}
 use Rattle.repair.specs.Repair.{part, putWord}
+use Rattle.repair.specs.Mended.{Outside, wordAt, Bytes}
+use Rattle.repair.proofs.Elimination.{by-test}
 
 -- a part in two
 pub part-two : (s : List ℕ) (e m : ℕ) → 2 ≤ e → e ≤ m → part 2 m s ≡ part 2 e s ++ part e m s
@@ -51,7 +58,7 @@ unfolding putWord
 length-put s i v = length-set (set s i (v / 2 ^ 8)) (i + 1) (v % 2 ^ 8) ∙ length-set s i (v / 2 ^ 8)
 
 -- and every byte but the two
-pub put-other : (s : List ℕ) (i v j : ℕ) → (j ≡ i → ⊥) → (j ≡ i + 1 → ⊥) → getD (putWord s i v) j 0 ≡ getD s j 0
+pub put-other : (s : List ℕ) (i v j : ℕ) → j ≢ i → j ≢ i + 1 → getD (putWord s i v) j 0 ≡ getD s j 0
 unfolding putWord
 put-other s i v j p q = getD-set-other (set s i (v / 2 ^ 8)) (i + 1) j (v % 2 ^ 8) 0 q ∙ getD-set-other s i j (v / 2 ^ 8) 0 p
 
@@ -111,3 +118,56 @@ part-front (w ∷ x ∷ y ∷ []) e v h k = absurd (small h)
 part-front (w ∷ x ∷ y ∷ z ∷ s) e v h k =
     let p : e - 2 ≡ suc (suc (e - 4)) = omega arith in
     ap (λ (n : ℕ). take n (v / 2 ^ 8 ∷ v % 2 ^ 8 ∷ s)) p
+
+-- the two bytes stored are found again
+pub word-put : (s : List ℕ) (i v : ℕ) → i + 1 < length s → wordAt (putWord s i v) i ≡ v
+unfolding putWord
+word-put s i v h =
+    let t = set s i (v / 2 ^ 8) in
+    let k : i + 1 < length t = simp length-set h in
+    let n : i ≢ i + 1 = λ e. ne i e in
+    let l : i < length s = omega arith in
+    ap₂ (λ (x y : ℕ). x * 2 ^ 8 + y) (getD-set-other t (i + 1) i (v % 2 ^ 8) 0 n ∙ getD-set-same s i (v / 2 ^ 8) 0 l) (getD-set-same t (i + 1) (v % 2 ^ 8) 0 k) ∙ split v 8
+  where
+    ne : (i : ℕ) → i ≡ i + 1 → ⊥
+    ne i e = omega arith
+
+-- a word stored where it stood changes nothing
+pub put-same : (s : List ℕ) (i : ℕ) → Bytes s → putWord s i (wordAt s i) ≡ s
+unfolding putWord
+put-same s i b =
+    let a = getD s i 0 in
+    let c = getD s (i + 1) 0 in
+    let hc = b (i + 1) in
+    let high : (a * 2 ^ 8 + c) / 2 ^ 8 ≡ a = omega arith in
+    let low : (a * 2 ^ 8 + c) % 2 ^ 8 ≡ c = omega arith in
+    ap₂ (λ (x y : ℕ). set (set s i x) (i + 1) y) high low ∙ ap (λ (t : List ℕ). set t (i + 1) c) (set-getD s i 0) ∙ set-getD s (i + 1) 0
+
+-- bytes stay bytes
+pub bytes-set : (s : List ℕ) (i v : ℕ) → i < length s → v < 2 ^ 8 → Bytes s → Bytes (set s i v)
+bytes-set s i v h k b j =
+    by-test (getD (set s i v) j 0 < 2 ^ 8) j i (eqb j i) refl (λ e. rw (e, getD-set-same s i v 0) k) (λ n. rw (getD-set-other s i j v 0 n) (b j))
+
+pub bytes-put : (s : List ℕ) (i v : ℕ) → i + 1 < length s → v < 2 ^ 16 → Bytes s → Bytes (putWord s i v)
+unfolding putWord
+bytes-put s i v h k b =
+    let l : i < length s = omega arith in
+    let m : i + 1 < length (set s i (v / 2 ^ 8)) = simp length-set h in
+    bytes-set (set s i (v / 2 ^ 8)) (i + 1) (v % 2 ^ 8) m (mod-lt v (pow-pos 8)) (bytes-set s i (v / 2 ^ 8) l (high-lt v k) b)
+
+-- two bytes stored keep every bit outside of them
+pub bit-put : (s : List ℕ) (i v b : ℕ) → Outside (8 * i) 16 b → bitAt (putWord s i v) b ≡ bitAt s b
+unfolding bitAt
+bit-put s i v b o =
+    ap (λ (x : ℕ). x / 2 ^ (7 - b % 8) % 2)
+    (put-other s i v (b / 8) (λ e. ⊎-elim (λ h. before i b h e) (λ h. after i b h (inl e)) o) (λ e. ⊎-elim (λ h. before-next i b h e) (λ h. after i b h (inr e)) o))
+  where
+    before : (i b : ℕ) → b < 8 * i → b / 8 ≡ i → ⊥
+    before i b h e = omega arith
+
+    before-next : (i b : ℕ) → b < 8 * i → b / 8 ≡ i + 1 → ⊥
+    before-next i b h e = omega arith
+
+    after : (i b : ℕ) → 8 * i + 16 ≤ b → (b / 8 ≡ i) ⊎ (b / 8 ≡ i + 1) → ⊥
+    after i b h (inl e) = omega arith
+    after i b h (inr e) = omega arith

@@ -2,7 +2,7 @@
 -- for each leading bit, by which the number is found that the map takes to a target.
 -- Assumes nothing.
 use mathlib.Core.Path.{_≡_}
-use mathlib.Core.Logic.{_⊎_}
+use mathlib.Core.Logic.{_⊎_, _≢_}
 use mathlib.Core.List.{List, [], _∷_}
 use Prim.Native.Nat.{ℕ, zero, suc, _%_, _^_, _<_, _≤_}
 use lib.ListN.{length, getD}
@@ -22,7 +22,7 @@ Columns L cols = (i : ℕ) → i < 16 → getD cols i 0 ≡ L (2 ^ i)
 -- what place i holds: v, which leads with bit i or is 0, and the units x whose images make it, none of them below 2 ^ m
 pub record Held (L : ℕ → ℕ) (m i v x : ℕ) : Type 0 where
   pub image : v ≡ L x
-  pub leads : (v ≡ 0 → ⊥) → (2 ^ i ≤ v) × (v < 2 ^ suc i)
+  pub leads : v ≢ 0 → (2 ^ i ≤ v) × (v < 2 ^ suc i)
   pub units : x % 2 ^ m ≡ 0
   pub small : x < 2 ^ 16
 
