@@ -43,7 +43,7 @@ module _ (k : Codec) (s : List ℕ) (test : Bool) (e : test ≡ unfit k (length 
   pub status-unfit : {g : Grounds} → test ≡ true → g ≡ grounds 20 0 → refused g ≡ crcStatusOf k s
   status-unfit t q = simp (sym e ∙ t) (ap refused q)
 
-  pub status-fit : test ≡ false → goodOf k s ≡ crcStatusOf k s
+  pub status-fit : test ≡ false → taken (goodOf k s) ≡ crcStatusOf k s
   status-fit t = simp (sym e ∙ t)
 
   pub repair-unfit : {g : Grounds} → test ≡ true → g ≡ grounds 20 0 → _≡_ {A = Ran (List ℕ) Unit} (record { outcome = refused g; state = s }) (repairOf k s)

@@ -102,20 +102,20 @@ unfolding repaired
 repaired-length codec.Ac3 s = length-crc2 (settled (withCrc1 s)) ∙ length-settled (withCrc1 s) ∙ length-crc1 s
 repaired-length codec.Eac3 s = length-crc2 s
 
-repaired-good : (k : Codec) (s : List ℕ) → least k ≤ length s → length s ≤ 4096 → goodOf k (repaired k s) ≡ taken (allGood k)
+repaired-good : (k : Codec) (s : List ℕ) → least k ≤ length s → length s ≤ 4096 → goodOf k (repaired k s) ≡ allGood k
 unfolding repaired goodOf least
 repaired-good codec.Ac3 s h l =
     let t = withCrc2 (settled (withCrc1 s)) in
     let e = ac3-length s h l in
-    ap₂ (λ (x y : ℕ). taken (both (eqb x 0) (eqb y 0)))
+    ap₂ (λ (x y : ℕ). both (eqb x 0) (eqb y 0))
     (ap (λ (n : ℕ). crcTo (fiveEighths n) t) e ∙ ac3-first s h l)
     (ap (λ (n : ℕ). crcTo n t) e ∙ ac3-second s h l)
-repaired-good codec.Eac3 s h l = ap (λ (x : ℕ). taken (second (eqb x 0))) (ap (λ (n : ℕ). crcTo n (withCrc2 s)) (length-crc2 s) ∙ after-crc2 s h)
+repaired-good codec.Eac3 s h l = ap (λ (x : ℕ). second (eqb x 0)) (ap (λ (n : ℕ). crcTo n (withCrc2 s)) (length-crc2 s) ∙ after-crc2 s h)
 
 status-after : (k : Codec) (s : List ℕ) → unfit k (length s) ≡ false → crcStatusOf k (repaired k s) ≡ taken (allGood k)
 status-after k s e =
     let b = fit-bounds k (length s) e in
-    sym (status-fit k (repaired k s) false (sym e ∙ ap (unfit k) (sym (repaired-length k s))) refl) ∙ repaired-good k s (b .0) (b .1)
+    sym (status-fit k (repaired k s) false (sym e ∙ ap (unfit k) (sym (repaired-length k s))) refl) ∙ ap taken (repaired-good k s (b .0) (b .1))
 
 -- the byte before crc2 keeps every bit but its lowest
 flip-above : (x e : ℕ) → 0 < e → bitXor x 1 / 2 ^ e ≡ x / 2 ^ e
@@ -208,10 +208,10 @@ mended-ac3 s e =
     }
 
 -- what a good status shows
-good-facts : (k : Codec) (s : List ℕ) → crcStatusOf k s ≡ taken (allGood k) → (unfit k (length s) ≡ false) × (goodOf k s ≡ taken (allGood k))
+good-facts : (k : Codec) (s : List ℕ) → crcStatusOf k s ≡ taken (allGood k) → (unfit k (length s) ≡ false) × (goodOf k s ≡ allGood k)
 good-facts k s e =
-    let p = past-then (fitOf k (length s)) (λ _. goodOf k s) e in
-    (past-test (unfit k (length s)) (grounds 20 0) (taken tt) (p .1) .0, p .2)
+    let p = past-then (fitOf k (length s)) (λ _. taken (goodOf k s)) e in
+    (past-test (unfit k (length s)) (grounds 20 0) (taken tt) (p .1) .0, taken-same (p .2))
 
 both-true : {a b : Bool} → _≡_ {A = Checked} (both a b) (both true true) → (a ≡ true) × (b ≡ true)
 both-true e = (cc, cc)
@@ -237,7 +237,7 @@ pub good-stays : (k : Codec) (s : List ℕ) → GoodStays k s
 unfolding repaired goodOf least
 good-stays codec.Ac3 s b e n =
     let p = good-facts codec.Ac3 s e in
-    let q = both-true (taken-same (p .1)) in
+    let q = both-true (p .1) in
     let f = fit-bounds codec.Ac3 (length s) (p .0) in
     let h : 4 ≤ length s = omega (arith, f .0) in
     let calm = settled-either (λ t. t ≡ s) s (λ c. absurd (n refl (crc2-is s h b (q .1) ∙ eqb-true (crcTo (length s - 2) s) 0x0B77 c))) (λ _. refl) in
@@ -245,7 +245,7 @@ good-stays codec.Ac3 s b e n =
 good-stays codec.Eac3 s b e n =
     let p = good-facts codec.Eac3 s e in
     let f = fit-bounds codec.Eac3 (length s) (p .0) in
-    good-crc2 s (f .0) b (second-true (taken-same (p .1)))
+    good-crc2 s (f .0) b (second-true (p .1))
 
 -- a repaired frame is made of bytes
 bytes-flipped : (s : List ℕ) → 3 ≤ length s → Bytes s → Bytes (flipped s)

@@ -47,9 +47,9 @@ pub data Checked : Type 0 where
   both : Bool → Bool → Checked
   second : Bool → Checked
 
-unfoldable pub goodOf : Codec → List ℕ → Outcome Checked
-goodOf codec.Ac3 s = taken (both (crc1Good s) (crc2Good s))
-goodOf codec.Eac3 s = taken (second (crc2Good s))
+unfoldable pub goodOf : Codec → List ℕ → Checked
+goodOf codec.Ac3 s = both (crc1Good s) (crc2Good s)
+goodOf codec.Eac3 s = second (crc2Good s)
 
 -- what an answer means
 abbrev pub statusOf : Status → Outcome Checked
@@ -59,7 +59,7 @@ statusOf (status.Refused r) = told r
 
 -- the status: 20, else which checksums are good
 abbrev pub crcStatusOf : Codec → List ℕ → Outcome Checked
-crcStatusOf k s = andThen (fitOf k (length s)) (λ _. goodOf k s)
+crcStatusOf k s = andThen (fitOf k (length s)) (λ _. taken (goodOf k s))
 
 -- two bytes made v, high byte first
 unfoldable pub putWord : List ℕ → ℕ → ℕ → List ℕ

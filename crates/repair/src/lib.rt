@@ -6,7 +6,7 @@ use refusal::Why;
 ghost use mathlib.Core.Path.{_≡_};
 ghost use Prim.Native.Nat.{ℕ, suc, _+_, _-_, _*_, _≤_, _<_, _^_};
 ghost use lib.ListN.{length};
-ghost use Rattle.refusal.specs.Refusals.{groundsOf, grounds};
+ghost use Rattle.refusal.specs.Refusals.{groundsOf, grounds, taken};
 ghost use Rattle.bits.specs.Answers.{putOf};
 ghost use Rattle.crc.specs.Crc.{crcOf, crc1Of, shift, idle};
 ghost use Rattle.repair.specs.Basis.{Linear, Columns, Places, Filled, Reduces};
@@ -189,7 +189,7 @@ fn crc_to(frame: &[u8], e: usize) -> u16
 // An AC-3 frame's status; its bytes are read once, since the run to the end goes on from the 5/8 point.
 fn both_good(frame: &[u8]) -> Status
     requires { ⌜ (8 ≤ length (now frame)) × (length (now frame) ≤ 4096) ⌝ }
-    ensures { λ r. ⌜ statusOf r ≡ goodOf Codec.Ac3 (now (frame .entry)) ⌝ }
+    ensures { λ r. ⌜ statusOf r ≡ taken (goodOf Codec.Ac3 (now (frame .entry))) ⌝ }
 {
     let five = five_eighths(frame.len());
     let first = crc_to(frame, five);
@@ -200,7 +200,7 @@ fn both_good(frame: &[u8]) -> Status
 // The status of a frame of a fit length.
 fn status_of(codec: Codec, frame: &[u8]) -> Status
     requires { ⌜ (least codec ≤ length (now frame)) × (length (now frame) ≤ 4096) ⌝ }
-    ensures { λ r. ⌜ statusOf r ≡ goodOf codec (now (frame .entry)) ⌝ }
+    ensures { λ r. ⌜ statusOf r ≡ taken (goodOf codec (now (frame .entry))) ⌝ }
 {
     match codec {
         Codec::Ac3 => both_good(frame),

@@ -23,13 +23,13 @@ crc-to-requires c κs =
 returns : tie.Need-returns
 returns c =
     let a = c .before .before .before .before .args in
-    c .both-good .ensures ∙ ap (λ k. goodOf k (a .frame .now)) (sym (c .before .enum-told .given .1))
+    c .both-good .ensures ∙ ap (λ k. taken (goodOf k (a .frame .now))) (sym (c .before .enum-told .given .1))
 
 returns-2 : tie.Need-returns-2
 unfolding goodOf
 returns-2 c =
     let a = c .before .before .before .before .args in
-    ap (λ x. taken (second (eqb x 0))) (c .crc-to .ensures) ∙ ap (λ k. goodOf k (a .frame .now)) (sym (c .before .enum-told2 .given .1))
+    ap (λ x. taken (second (eqb x 0))) (c .crc-to .ensures) ∙ ap (λ k. taken (goodOf k (a .frame .now))) (sym (c .before .enum-told2 .given .1))
 
 pub status-of-spec : {M : Type 1} → statement M
 status-of-spec = tie.close (tie.spec (λ c. search needs) both-good-requires (λ c. search needs) crc-to-requires returns returns-2)
