@@ -1,16 +1,16 @@
 -- The tests of a length, and what a caller learns from them.
 -- Assumes nothing.
-use mathlib.Core.Path.{_≡_, refl, sym, ap, _∙_}
+use mathlib.Core.Path.{_≡_, sym, ap, _∙_}
 use mathlib.Core.Bool.{Bool, true, false, _||_}
 use mathlib.Core.List.{List}
 use Prim.Native.Nat.{ℕ, _%_, _<_, _≤_}
-use native.Mathlib.Omega.{arith}
 use lib.Dec.{ltb, eqb}
 use lib.ListN.{length}
 use borrow.Author.Tests.{le-ltb, lt-ltb, ltb-false}
 use Rattle.refusal.specs.Refusals.{Grounds, grounds, taken, refused, Ran}
 use Rattle.probe.specs.declared.Codec.{Codec}
-use Rattle.repair.specs.Repair.{least, unfit, Checked, goodOf, crcStatusOf, repaired, repairOf}
+use Rattle.repair.specs.Repair.{least, unfit, goodOf, crcStatusOf, repaired, repairOf}
+use Rattle.repair.proofs.Cases.{or-false}
 
 -- the first test that holds decides
 module _ (k : Codec) (n l : ℕ) (e : l ≡ least k) where
@@ -22,14 +22,6 @@ module _ (k : Codec) (n l : ℕ) (e : l ≡ least k) where
 
   pub unfit-odd : l ≤ n → n ≤ 4096 → eqb (n % 2) 1 ≡ unfit k n
   unfit-odd h g = simp (le-ltb n (least k) (rw e at h), le-ltb 4096 n g)
-
--- a test that does not hold of either does not hold of both
-or-false : (a b : Bool) → (a || b) ≡ false → (a ≡ false) × (b ≡ false)
-or-false true b e = let z : true ≡ false = e in absurd (no z)
-  where
-    no : true ≡ false → ⊥
-    no z = let q : _≡_ {A = ℕ} 0 1 = cc in absurd (omega arith)
-or-false false b e = (refl, e)
 
 -- the bounds of a fit length
 pub fit-bounds : (k : Codec) (n : ℕ) → unfit k n ≡ false → (least k ≤ n) × (n ≤ 4096)

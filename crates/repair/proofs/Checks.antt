@@ -4,19 +4,18 @@ use mathlib.Core.Path.{_≡_, refl, sym, ap, ap₂, _∙_}
 use mathlib.Core.Bool.{Bool, true, false, cond}
 use mathlib.Core.Logic.{_≢_}
 use mathlib.Core.List.{List, [], _∷_, _++_}
-use Prim.Native.Nat.{ℕ, _+_, _-_, _*_, _/_, _%_, _^_, _<_, _≤_}
+use Prim.Native.Nat.{ℕ, _+_, _-_, _<_, _≤_}
 use native.Mathlib.Omega.{arith}
-use lib.Dec.{eqb}
 use lib.Pow.{pow-pos}
 use lib.ListN.{length, getD, set, length-set}
-use lib.Seq.{getD-set-same, getD-set-other}
+use lib.Seq.{getD-set-same}
 use lib.Bits.{bitXor}
 use borrow.Author.Tests.{eq-eqb, ne-eqb}
 use Rattle.crc.specs.Crc.{poly, crcOf}
 use Rattle.crc.proofs.Linear.{crc-append}
 use Rattle.crc.proofs.Ends.{crc-tail, crc-flip, crc1-good}
 use Rattle.repair.specs.Repair.{part, fiveEighths, crcTo, crc1For, putWord, withCrc1, withCrc2, flipped, clashes, settled}
-use Rattle.repair.proofs.Parts.{part-two, part-more, part-set, part-put, rest-put, part-last, part-front, length-put}
+use Rattle.repair.proofs.Parts.{part-two, part-more, part-set, rest-put, part-last, part-front, length-put}
 
 -- where the 5/8 point stands
 pub five-bounds : (n : ℕ) → 8 ≤ n → n ≤ 4096 → (4 ≤ fiveEighths n) × (fiveEighths n ≤ n - 3)

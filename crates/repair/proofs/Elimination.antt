@@ -2,23 +2,21 @@
 -- fills a place that was empty, so that in the end none is.
 -- Assumes nothing.
 use mathlib.Core.Path.{_≡_, refl, sym, ap, ap₂, _∙_, subst}
-use mathlib.Core.Bool.{Bool, true, false}
 use mathlib.Core.Logic.{inl, inr, ⊎-elim, _≢_}
 use mathlib.Core.List.{List, [], _∷_}
 use Prim.Native.Nat.{ℕ, zero, suc, _+_, _-_, _*_, _/_, _%_, _^_, _<_, _≤_}
 use native.Mathlib.Nat.{mod-lt, not-suc-le-zero, pow-suc, one-mul, mod-eq-of-lt, mod-self, zero-mod, mul-comm, le-of-suc-le-suc, div-lt-iff-lt-mul, le-div-iff-mul-le, zero-mul, zero-add, suc-ne-zero, suc-inj, lt-irrefl, lt-suc-self}
 use native.Mathlib.Numerals.{one-add}
 use native.Mathlib.Omega.{arith}
-use lib.Dec.{eqb}
 use lib.Arith.{lt-one}
 use lib.Pow.{pow-pos, pow-lt, split, mod-mod-pow}
 use lib.ListN.{length, getD, set, length-set, replicate, getD-replicate}
 use lib.Seq.{getD-set-same, getD-set-other}
 use lib.Bits.{bitXor, xor-lt, xor-shr, xor-mod, xor-self, xor-zero-r}
-use borrow.Author.Tests.{eqb-true, eqb-false}
 use Rattle.crc.proofs.Xor.{xor-pairs, xor-zero-eq}
 use Rattle.repair.specs.declared.Reduced.{Reduced}
 use Rattle.repair.specs.Basis.{Linear, Columns, Held, Places, empties, Filled, Reduces}
+use Rattle.repair.proofs.Cases.{equal-or-not}
 
 -- a unit as the code makes it
 pub unit-law : (i : ℕ) → i < 16 → 1 * 2 ^ i % 2 ^ 16 ≡ 2 ^ i
@@ -111,18 +109,13 @@ held-less L m i v x h =
       small = h .small;
     }
 
--- cases on whether two numbers are equal
-pub by-test : (P : Type 0) (i j : ℕ) (b : Bool) → eqb i j ≡ b → (i ≡ j → P) → (i ≢ j → P) → P
-by-test P i j true e f g = f (eqb-true i j e)
-by-test P i j false e f g = g (eqb-false i j e)
-
 -- a property of each place, after a store at one
 stored : (P : ℕ → ℕ → ℕ → Type 0) (vs cs : List ℕ) (at v x : ℕ) → length vs ≡ 16 → length cs ≡ 16 → at < 16 → P at v x
     → ((i : ℕ) → i < 16 → P i (getD vs i 0) (getD cs i 0)) → (i : ℕ) → i < 16 → P i (getD (set vs at v) i 0) (getD (set cs at x) i 0)
 stored P vs cs at v x hv hc h p q i k =
     let kv : at < length vs = omega arith in
     let kc : at < length cs = omega arith in
-    by-test (P i (getD (set vs at v) i 0) (getD (set cs at x) i 0)) i at (eqb i at) refl
+    equal-or-not (P i (getD (set vs at v) i 0) (getD (set cs at x) i 0)) i at
     (λ e. rw (e, getD-set-same vs at v 0, getD-set-same cs at x 0) p)
     (λ n. rw (getD-set-other vs at i v 0 n, getD-set-other cs at i x 0 n) (q i k))
 

@@ -1,4 +1,5 @@
 pub mod Answers
+pub mod Cases
 pub mod Checks
 pub mod Elimination
 pub mod Examples

@@ -24,7 +24,7 @@ use Rattle.probe.specs.declared.Codec.{Codec}
 use Rattle.probe.specs.declared.Codec.the-variants as codec
 use Rattle.repair.specs.Repair.{least, unfit, fitOf, fiveEighths, part, crcTo, crc1Good, crc2Good, Checked, both, second, goodOf, crcStatusOf, putWord, crc1For, withCrc1, withCrc2, flipped, clashes, settled, repaired, repairOf}
 use Rattle.repair.specs.Mended.{allGood, Outside, Kept, wordAt, crc2In, Bytes, Mended, MendedAc3, GoodStays, RefusedStays}
-use Rattle.repair.proofs.Elimination.{by-test}
+use Rattle.repair.proofs.Cases.{equal-or-not}
 use Rattle.repair.proofs.Answers.{fit-bounds, status-fit}
 use Rattle.repair.proofs.Parts.{part-set, part-put, part-last, part-front, length-put, word-put, put-same, bytes-set, bytes-put, bit-put}
 use Rattle.repair.proofs.Checks.{five-bounds, length-crc1, length-crc2, length-flipped, length-settled, settled-either, after-crc1, after-crc2, crc-flipped}
@@ -127,7 +127,7 @@ bit-flipped s b h n =
     let m = length s - 3 in
     let x = bitXor (getD s m 0) 1 in
     let hm : m < length s = omega arith in
-    by-test (getD (set s m x) (b / 8) 0 / 2 ^ (7 - b % 8) % 2 ≡ getD s (b / 8) 0 / 2 ^ (7 - b % 8) % 2) (b / 8) m (eqb (b / 8) m) refl
+    equal-or-not (getD (set s m x) (b / 8) 0 / 2 ^ (7 - b % 8) % 2 ≡ getD s (b / 8) 0 / 2 ^ (7 - b % 8) % 2) (b / 8) m
     (λ e.
     let up : 0 < 7 - b % 8 = above (length s) b h e n in
     ap (λ (y : ℕ). y / 2 ^ (7 - b % 8) % 2) (ap (λ (j : ℕ). getD (set s m x) j 0) e ∙ getD-set-same s m x 0 hm)

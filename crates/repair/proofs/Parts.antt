@@ -6,7 +6,6 @@ use mathlib.Core.List.{List, [], _∷_, _++_}
 use Prim.Native.Nat.{ℕ, zero, suc, _+_, _-_, _*_, _/_, _%_, _^_, _<_, _≤_}
 use native.Mathlib.Nat.{not-suc-le-zero, suc-inj, suc-add, mod-lt}
 use native.Mathlib.Omega.{arith}
-use lib.Dec.{eqb}
 use lib.Pow.{pow-pos, split}
 use lib.ListN.{length, getD, set, take, drop, length-set, length-drop}
 use lib.Seq.{drop-set-add, drop-set-lt, take-set-le, take-all, take-add, take-suc, drop-drop, getD-drop, getD-set-same, getD-set-other, set-getD}
@@ -14,7 +13,7 @@ use Rattle.bits.specs.Bits.{bitAt}
 use Rattle.crc.proofs.Bytes.{high-lt}
 use Rattle.repair.specs.Repair.{part, putWord}
 use Rattle.repair.specs.Mended.{Outside, wordAt, Bytes}
-use Rattle.repair.proofs.Elimination.{by-test}
+use Rattle.repair.proofs.Cases.{equal-or-not}
 
 -- a part in two
 pub part-two : (s : List ℕ) (e m : ℕ) → 2 ≤ e → e ≤ m → part 2 m s ≡ part 2 e s ++ part e m s
@@ -146,7 +145,7 @@ put-same s i b =
 -- bytes stay bytes
 pub bytes-set : (s : List ℕ) (i v : ℕ) → i < length s → v < 2 ^ 8 → Bytes s → Bytes (set s i v)
 bytes-set s i v h k b j =
-    by-test (getD (set s i v) j 0 < 2 ^ 8) j i (eqb j i) refl (λ e. rw (e, getD-set-same s i v 0) k) (λ n. rw (getD-set-other s i j v 0 n) (b j))
+    equal-or-not (getD (set s i v) j 0 < 2 ^ 8) j i (λ e. rw (e, getD-set-same s i v 0) k) (λ n. rw (getD-set-other s i j v 0 n) (b j))
 
 pub bytes-put : (s : List ℕ) (i v : ℕ) → i + 1 < length s → v < 2 ^ 16 → Bytes s → Bytes (putWord s i v)
 unfolding putWord

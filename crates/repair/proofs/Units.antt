@@ -1,11 +1,10 @@
 -- The columns that crc1 is found by: what zero bytes make of each unit.
 -- Assumes nothing.
-use mathlib.Core.Path.{_≡_, refl, sym, ap, ap₂, _∙_}
+use mathlib.Core.Path.{_≡_, sym, ap, _∙_}
 use mathlib.Core.List.{List}
-use Prim.Native.Nat.{ℕ, zero, suc, _+_, _*_, _/_, _%_, _^_, _<_}
+use Prim.Native.Nat.{ℕ, _+_, _*_, _/_, _%_, _^_, _<_}
 use native.Mathlib.Nat.{one-mul}
 use native.Mathlib.Omega.{arith}
-use lib.Dec.{eqb}
 use lib.Arith.{lt-of-le-ne}
 use lib.Pow.{pow-lt}
 use lib.ListN.{length, getD, set, replicate}
@@ -16,7 +15,7 @@ use Rattle.crc.proofs.Linear.{idle-linear, idle-lt, idle-shift, idle-add}
 use Rattle.crc.proofs.Bytes.{idle-up, crc-zeros}
 use Rattle.crc.proofs.Back.{idle-kernel}
 use Rattle.repair.specs.Basis.{Linear}
-use Rattle.repair.proofs.Elimination.{by-test}
+use Rattle.repair.proofs.Cases.{equal-or-not}
 
 -- idle steps are such a map
 pub idle-map : (n : ℕ) → Linear (idle n)
@@ -47,6 +46,6 @@ pub columns-next : (n : ℕ) (l : List ℕ) (i c : ℕ) → length l ≡ 16 → 
     → ((k : ℕ) → k < i → getD l k 0 ≡ idle (8 * n) (2 ^ k)) → (k : ℕ) → k < i + 1 → getD (set l i c) k 0 ≡ idle (8 * n) (2 ^ k)
 columns-next n l i c hl h e p k q =
     let hi : i < length l = omega arith in
-    by-test (getD (set l i c) k 0 ≡ idle (8 * n) (2 ^ k)) k i (eqb k i) refl
+    equal-or-not (getD (set l i c) k 0 ≡ idle (8 * n) (2 ^ k)) k i
     (λ y. rw (y, getD-set-same l i c 0) (e ∙ ap (idle (8 * n)) (unit-idle i h)))
     (λ y. getD-set-other l i k c 0 y ∙ p k (lt-of-le-ne (omega arith) y))

@@ -1,7 +1,7 @@
 -- What a repair promises, as statements (document 01, "CRC and its repair"). The theorems are in proofs/Mended.antt.
 -- Assumes nothing.
 use mathlib.Core.Path.{_≡_}
-use mathlib.Core.Bool.{true, false}
+use mathlib.Core.Bool.{true}
 use mathlib.Core.Logic.{_⊎_, _≢_}
 use mathlib.Core.List.{List}
 use Prim.Native.Nat.{ℕ, _+_, _-_, _*_, _^_, _<_, _≤_}
@@ -10,7 +10,7 @@ use Rattle.refusal.specs.Refusals.{Grounds, taken, refused, grounds}
 use Rattle.bits.specs.Bits.{bitAt}
 use Rattle.probe.specs.declared.Codec.{Codec}
 use Rattle.probe.specs.declared.Codec.the-variants as codec
-use Rattle.repair.specs.Repair.{unfit, crc1Good, crc2Good, Checked, both, second, crcStatusOf, crcTo, crc1For, putWord, withCrc1, clashes, repaired, repairOf}
+use Rattle.repair.specs.Repair.{crc1Good, crc2Good, Checked, both, second, crcStatusOf, crcTo, crc1For, putWord, withCrc1, clashes, repaired, repairOf}
 
 -- every checksum is good
 abbrev pub allGood : Codec → Checked

@@ -8,9 +8,9 @@ ghost use Prim.Native.Nat.{ℕ, suc, _+_, _-_, _*_, _≤_, _<_, _^_};
 ghost use lib.ListN.{length};
 ghost use Rattle.refusal.specs.Refusals.{groundsOf, grounds, taken};
 ghost use Rattle.bits.specs.Answers.{putOf};
-ghost use Rattle.crc.specs.Crc.{crcOf, crc1Of, shift, idle};
+ghost use Rattle.crc.specs.Crc.{crc1Of, shift, idle};
 ghost use Rattle.repair.specs.Basis.{Linear, Columns, Places, Filled, Reduces};
-ghost use Rattle.repair.specs.Repair.{part, least, unfit, fiveEighths, crcTo, crc1Good, crc2Good, statusOf, goodOf, crcStatusOf, crc1For, putWord, flipped, withCrc1, withCrc2, settled, repaired, repairOf};
+ghost use Rattle.repair.specs.Repair.{least, unfit, fiveEighths, crcTo, statusOf, goodOf, crcStatusOf, crc1For, putWord, flipped, withCrc1, withCrc2, settled, repaired, repairOf};
 
 // Whether the checksums are good: crc1 and crc2 of an AC-3 frame, or crc2 of an E-AC-3 frame, which has no crc1.
 pub enum Status {
@@ -44,6 +44,7 @@ struct Sums {
     crc2: u16,
 }
 
+// The number whose one bit is bit i.
 fn unit(i: usize) -> u16
     requires { ⌜ i < 16 ⌝ }
     ensures { λ r. ⌜ r ≡ 2 ^ i ⌝ }
@@ -51,7 +52,7 @@ fn unit(i: usize) -> u16
     1u16 << i
 }
 
-// Clears v from its top bit down, until nothing is left or a place is empty. x counts the units.
+// Clears v from its top bit down by what the places hold, until nothing is left or a place is empty. The units of what was added join x.
 fn reduce(vals: &[u16; 16], combs: &[u16; 16], v: u16, x: u16) -> Reduced
     ensures { λ r. ⌜ (r .at < 16) × ((L : ℕ → ℕ) (m : ℕ) → Linear L → Places L m (now (vals .entry)) (now (combs .entry)) → Reduces L m (now (vals .entry)) v x r) ⌝ }
 {
@@ -72,9 +73,9 @@ fn reduce(vals: &[u16; 16], combs: &[u16; 16], v: u16, x: u16) -> Reduced
     Reduced { left, comb, at: 0 }
 }
 
-// One column more: what it reduces to fills a place.
+// The basis with one column more: what the column reduces to fills a place that was empty.
 fn insert(basis: Basis, column: u16, unit: u16) -> Basis
-    ensures { λ r. ⌜ ((L : ℕ → ℕ) (m : ℕ) → Linear L → m < 16 → unit ≡ 2 ^ m → column ≡ L unit → Filled L (suc m) (basis .vals) (basis .combs) → Filled L m (r .vals) (r .combs)) ⌝ }
+    ensures { λ r. ⌜ ((L : ℕ → ℕ) (m : ℕ) → Linear L → unit ≡ 2 ^ m → column ≡ L unit → Filled L (suc m) (basis .vals) (basis .combs) → Filled L m (r .vals) (r .combs)) ⌝ }
 {
     let mut vals = basis.vals;
     let mut combs = basis.combs;

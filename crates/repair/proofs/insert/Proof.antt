@@ -9,7 +9,7 @@ returns : tie.Need-returns
 returns c =
     let a = c .before .before .before .before .before .args in
     let r = c .reduce .ensures in
-    λ L m lin h eu ec b.
+    λ L m lin eu ec b.
     filled-more L lin m (a .basis .vals) (a .basis .combs) (a .unit) (a .column) eu ec b (c .reduce .result) (r .0) (r .1 L (suc m) lin (b .places))
 
 pub insert-spec : {M : Type 1} → statement M

@@ -1,6 +1,5 @@
 -- `repair::solve` meets its contract. The loop's invariant: for each map that has these columns, the basis with m of them to come.
 -- Assumes nothing.
-use mathlib.Core.Path.{_≡_}
 use Prim.Native.Nat.{ℕ, _-_, _≤_}
 use native.Mathlib.Omega.{arith}
 use borrow.Author.Needs.{needs}
@@ -25,7 +24,7 @@ loop-again c =
     let u = c .before .unit in (
       search needs,
       λ L lin cols.
-          c .insert .ensures L (l .m - 1) lin (omega arith) (u .ensures)
+          c .insert .ensures L (l .m - 1) lin (u .ensures)
           (column-of L lin (t .before .before .args .cols .now) cols (l .m - 1) (u .result) (omega arith) (u .ensures))
           (filled-as L lin (l .m) (l .basis .vals) (l .basis .combs) (t .loop-test .taken) (l .inv .1 L lin cols)),
     )
