@@ -110,7 +110,9 @@ repaired-good codec.Ac3 s h l =
     ap₂ (λ (x y : ℕ). both (eqb x 0) (eqb y 0))
     (ap (λ (n : ℕ). crcTo (fiveEighths n) t) e ∙ ac3-first s h l)
     (ap (λ (n : ℕ). crcTo n t) e ∙ ac3-second s h l)
-repaired-good codec.Eac3 s h l = ap (λ (x : ℕ). second (eqb x 0)) (ap (λ (n : ℕ). crcTo n (withCrc2 s)) (length-crc2 s) ∙ after-crc2 s h)
+repaired-good codec.Eac3 s h l =
+    let g : 4 ≤ length s = omega arith in
+    ap (λ (x : ℕ). second (eqb x 0)) (ap (λ (n : ℕ). crcTo n (withCrc2 s)) (length-crc2 s) ∙ after-crc2 s g)
 
 status-after : (k : Codec) (s : List ℕ) → unfit k (length s) ≡ false → crcStatusOf k (repaired k s) ≡ taken (allGood k)
 status-after k s e =
@@ -245,7 +247,8 @@ good-stays codec.Ac3 s b e n =
 good-stays codec.Eac3 s b e n =
     let p = good-facts codec.Eac3 s e in
     let f = fit-bounds codec.Eac3 (length s) (p .0) in
-    good-crc2 s (f .0) b (second-true (p .1))
+    let h : 4 ≤ length s = omega (arith, f .0) in
+    good-crc2 s h b (second-true (p .1))
 
 -- a repaired frame is made of bytes
 bytes-flipped : (s : List ℕ) → 3 ≤ length s → Bytes s → Bytes (flipped s)
@@ -271,7 +274,10 @@ bytes-repaired codec.Ac3 s e b =
     let h : 3 ≤ length w = omega (arith, f .0) in
     let bw = bytes-crc1 s (f .0) b in
     bytes-crc2 (settled w) (long s (f .0) (f .1)) (settled-either Bytes w (λ _. bytes-flipped w h bw) (λ _. bw))
-bytes-repaired codec.Eac3 s e b = bytes-crc2 s (fit-bounds codec.Eac3 (length s) e .0) b
+bytes-repaired codec.Eac3 s e b =
+    let f = fit-bounds codec.Eac3 (length s) e in
+    let h : 4 ≤ length s = omega (arith, f .0) in
+    bytes-crc2 s h b
 
 -- repaired again, a frame stays as it is
 once : (k : Codec) (s : List ℕ) → unfit k (length s) ≡ false → Bytes s → repaired k (repaired k s) ≡ repaired k s
