@@ -14,7 +14,13 @@ use Rattle.tables.specs.declared.Delta.{Delta}
 use Rattle.tables.specs.declared.Pointers.{Pointers}
 use Rattle.alloc.specs.Answers.{allocateOf}
 use Rattle.capi.specs.Replies.{Told, told, toldOf, Reply, reply, replyOf, running, runningOf}
+use Rattle.walks.specs.declared.Groups.{Groups}
+use Rattle.walks.specs.Walk.{State, state}
+use Rattle.exponents.specs.declared.ExpSet.{ExpSet}
+use Rattle.exponents.specs.Reads.{Left, left}
 use Rattle.capi.specs.Standings.{stood, stoodOf, moved, movedOf, advanced, advancedOf}
+use Rattle.capi.specs.Walks.{carried, carriedOf}
+use Rattle.capi.specs.Sets.{unpacked, unpackedOf}
 
 -- the two arms of an answer that means o
 module _ {A : Type 0} {o : Outcome A} where
@@ -45,6 +51,14 @@ module _ {A : Type 0} {o : Outcome A} {place : Place} {log : List ℕ} {p : Ran 
 module _ {o : Outcome ℕ} {place : Place} {p : Ran Place ℕ} (e : record { outcome = o; state = place } ≡ p) where
   pub advanced-as : {k v b : ℕ} → reply k v b ≡ replyOf 0 o → advanced k v b (place .pos) ≡ advancedOf p
   advanced-as t = ap (λ (w : Reply ℕ). record { reply = w; pos = place .pos }) t ∙ ap advancedOf e
+
+module _ {o : Outcome Unit} {place : Place} {groups : Groups} {p : Ran State Unit} (e : record { outcome = o; state = state place groups } ≡ p) where
+  pub carried-as : {k b : ℕ} → told k b ≡ toldOf o → carried k b (place .pos) groups ≡ carriedOf p
+  carried-as t = ap (λ (w : Told). record { told = w; pos = place .pos; groups = groups }) t ∙ ap carriedOf e
+
+module _ {o : Outcome Unit} {place : Place} {log : List ℕ} {set : ExpSet} {p : Ran Left Unit} (e : record { outcome = o; state = left (standing place log) set } ≡ p) where
+  pub unpacked-as : {k b : ℕ} → told k b ≡ toldOf o → unpacked k b (place .pos) (place .count) log set ≡ unpackedOf p
+  unpacked-as t = ap (λ (w : Told). record { moved = record { told = w; pos = place .pos; count = place .count; log = log }; set = set }) t ∙ ap unpackedOf e
 
 -- a state that ends at one position, whether the call is taken or refused
 settled : (s s′ : Standing) (o : Outcome Unit) → s′ .place .pos ≡ s .place .pos → settle s s′ o .state .place .pos ≡ s .place .pos

@@ -8,6 +8,8 @@ use denote.Triple.Clauses.{AtExit}
 use denote.Ref.{now}
 use Rattle.capi.specs.Replies.{told, reply, running}
 use Rattle.capi.specs.Standings.{stood, moved, advanced, fields}
+use Rattle.capi.specs.Walks.{groupsOf, carried}
+use Rattle.capi.specs.Sets.{setOf, unpacked}
 use Rattle.capi.proofs.zela_bits_get.Kinds as get-kinds
 use Rattle.capi.proofs.zela_bits_get.Reads as get-reads
 use Rattle.capi.proofs.zela_bits_set.Kinds as set-kinds
@@ -40,6 +42,12 @@ use Rattle.capi.proofs.zela_element_at.Kinds as element-at-kinds
 use Rattle.capi.proofs.zela_element_at.Reads as element-at-reads
 use Rattle.capi.proofs.zela_allocate.Kinds as allocate-kinds
 use Rattle.capi.proofs.zela_allocate.Reads as allocate-reads
+use Rattle.capi.proofs.mantissas.zela_conventional.Kinds as conventional-kinds
+use Rattle.capi.proofs.mantissas.zela_conventional.Reads as conventional-reads
+use Rattle.capi.proofs.mantissas.zela_aht.Kinds as aht-kinds
+use Rattle.capi.proofs.mantissas.zela_aht.Reads as aht-reads
+use Rattle.capi.proofs.sets.zela_read_exponents.Kinds as read-exponents-kinds
+use Rattle.capi.proofs.sets.zela_read_exponents.Reads as read-exponents-reads
 
 pub get-one : (κs : Lfts 3) (a : Dens κs get-kinds.ps) (x y : ℕ) (s t : AtExit (endedOf 3 get-kinds.ps get-kinds.r) κs)
     → get-reads.Post κs a x s → get-reads.Post κs a y t
@@ -131,3 +139,21 @@ pub allocate-one : (κs : Lfts 9) (a : Dens κs allocate-kinds.ps) (x y : ℕ) (
     → running x (now (s .1 .1 .1 .1 .1 .1 .1 .1 .1 .1 .1 .1 .1 .1 .1 .0)) (now (s .1 .1 .1 .1 .1 .1 .1 .1 .1 .1 .1 .1 .1 .1 .0))
     ≡ running y (now (t .1 .1 .1 .1 .1 .1 .1 .1 .1 .1 .1 .1 .1 .1 .1 .0)) (now (t .1 .1 .1 .1 .1 .1 .1 .1 .1 .1 .1 .1 .1 .1 .0))
 allocate-one κs a x y s t p q = p ∙ sym q
+
+pub conventional-one : (κs : Lfts 7) (a : Dens κs conventional-kinds.ps) (x y : ℕ) (s t : AtExit (endedOf 7 conventional-kinds.ps conventional-kinds.r) κs)
+    → conventional-reads.Post κs a x s → conventional-reads.Post κs a y t
+    → carried x (now (s .1 .1 .1 .1 .1 .1 .1 .1 .1 .0)) (now (s .1 .0)) (groupsOf (now (s .1 .1 .1 .1 .1 .1 .0)) (now (s .1 .1 .1 .1 .1 .1 .1 .0)) (now (s .1 .1 .1 .1 .1 .1 .1 .1 .0)))
+    ≡ carried y (now (t .1 .1 .1 .1 .1 .1 .1 .1 .1 .0)) (now (t .1 .0)) (groupsOf (now (t .1 .1 .1 .1 .1 .1 .0)) (now (t .1 .1 .1 .1 .1 .1 .1 .0)) (now (t .1 .1 .1 .1 .1 .1 .1 .1 .0)))
+conventional-one κs a x y s t p q = p ∙ sym q
+
+pub aht-one : (κs : Lfts 5) (a : Dens κs aht-kinds.ps) (x y : ℕ) (s t : AtExit (endedOf 5 aht-kinds.ps aht-kinds.r) κs)
+    → aht-reads.Post κs a x s → aht-reads.Post κs a y t
+    → advanced x (now (s .1 .1 .1 .1 .1 .1 .0)) (now (s .1 .1 .1 .1 .1 .1 .1 .0)) (now (s .1 .0))
+    ≡ advanced y (now (t .1 .1 .1 .1 .1 .1 .0)) (now (t .1 .1 .1 .1 .1 .1 .1 .0)) (now (t .1 .0))
+aht-one κs a x y s t p q = p ∙ sym q
+
+pub read-exponents-one : (κs : Lfts 8) (a : Dens κs read-exponents-kinds.ps) (x y : ℕ) (s t : AtExit (endedOf 8 read-exponents-kinds.ps read-exponents-kinds.r) κs)
+    → read-exponents-reads.Post κs a x s → read-exponents-reads.Post κs a y t
+    → unpacked x (now (s .1 .1 .1 .1 .1 .1 .1 .1 .1 .1 .1 .1 .1 .0)) (now (s .1 .1 .0)) (now (s .1 .1 .1 .1 .1 .0)) (now (s .1 .0)) (setOf (now (s .1 .1 .1 .1 .1 .1 .1 .1 .1 .1 .0)) (now (s .1 .1 .1 .1 .1 .1 .1 .1 .1 .1 .1 .0)) (now (s .1 .1 .1 .1 .1 .1 .1 .1 .1 .1 .1 .1 .0)))
+    ≡ unpacked y (now (t .1 .1 .1 .1 .1 .1 .1 .1 .1 .1 .1 .1 .1 .0)) (now (t .1 .1 .0)) (now (t .1 .1 .1 .1 .1 .0)) (now (t .1 .0)) (setOf (now (t .1 .1 .1 .1 .1 .1 .1 .1 .1 .1 .0)) (now (t .1 .1 .1 .1 .1 .1 .1 .1 .1 .1 .1 .0)) (now (t .1 .1 .1 .1 .1 .1 .1 .1 .1 .1 .1 .1 .0)))
+read-exponents-one κs a x y s t p q = p ∙ sym q

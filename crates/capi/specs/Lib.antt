@@ -1,3 +1,5 @@
 pub mod Replies
 pub mod Standings
 pub mod Channels
+pub mod Walks
+pub mod Sets
