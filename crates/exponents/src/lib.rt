@@ -7,6 +7,7 @@ use syntax::Place;
 use syntax::Reader;
 use syntax::Role;
 use syntax::begin;
+use syntax::cursor::Cursor;
 use syntax::names;
 use syntax::next;
 use tables::Bin;
@@ -19,6 +20,7 @@ ghost use lib.Seq.{sets};
 ghost use Rattle.refusal.specs.Refusals.{numberOf, grounds, refused, taken, thenRun};
 ghost use Rattle.bits.specs.Answers.{doneOf};
 ghost use Rattle.syntax.specs.Reads.{standing, readerOf};
+ghost use Rattle.syntax.specs.Cursors.{moved};
 ghost use Rattle.exponents.specs.Set.{sizeOf, groupCount, digits, running, offScale, outside, spread};
 ghost use Rattle.exponents.specs.Reads.{exponentsOf, ends, unfit, askOf, noSet, leaves, readExponentsOf};
 ghost use Rattle.exponents.specs.Turns.{runOf, lastOf, begunOf, groupOn, groupsOn, firstOn, finishOn};
@@ -367,4 +369,20 @@ pub fn read_exponents(
     let begins = first(frame, log, &mut exp, place, slot, from);
     let run = groups(frame, log, &mut exp, begins, ask, g, count);
     finished(&exp, run, from, to)
+}
+
+// The same at a cursor that is lent, which goes to the place that is answered.
+pub fn read_exponents_at<'s, 'a, 'l>(
+    c: &'s mut Cursor<'a>,
+    log: &'l mut [u32],
+    slot: u8,
+    strategy: u8,
+    start: Bin,
+    end: Bin,
+) -> Exponents
+    ensures { λ r. ⌜ (exponentsOf r (now (log .exit)) ≡ readExponentsOf (now (now (c .entry) .bytes)) (standing (now (c .entry) .place) (now (log .entry))) slot strategy (start .0) (end .0)) × (now (c .exit) ≡ moved (now (c .entry)) (r .place)) ⌝ }
+{
+    let read = read_exponents(c.bytes, log, c.place, slot, strategy, start, end);
+    c.place = read.place;
+    read
 }

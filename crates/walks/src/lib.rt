@@ -3,6 +3,7 @@ use bits::Put;
 use refusal::Refusal;
 use refusal::Why;
 use syntax::Place;
+use syntax::cursor::Cursor;
 use syntax::is_unsound;
 use syntax::passes;
 use tables::Bin;
@@ -11,6 +12,7 @@ ghost use Prim.Native.Nat.{_≤_, _<_};
 ghost use lib.ListN.{length};
 ghost use lib.Seq.{slice};
 ghost use Rattle.refusal.specs.Refusals.{numberOf};
+ghost use Rattle.syntax.specs.Cursors.{moved};
 ghost use Rattle.walks.specs.Walk.{state, walkedOf, stopped, width, share, cost, counted, Reachable, mantissaOf, going, walkCodes, unfitRange, unreachable, unfitWalk, walkOf};
 
 // How many members the open groups of codes 1, 2 and 4 have. All channels of a block share them.
@@ -226,4 +228,19 @@ pub fn conventional(
         return refused(Why::BadArgument, place, groups);
     }
     walk_bins(bap, first, last, place, groups)
+}
+
+// The same at a cursor that is lent, which goes to the place that is answered.
+pub fn conventional_at<'s, 'a, 'b>(
+    c: &'s mut Cursor<'a>,
+    bap: &'b [u8; 256],
+    start: Bin,
+    end: Bin,
+    groups: Groups,
+) -> Walked
+    ensures { λ r. ⌜ (walkedOf r ≡ walkOf (now (now (c .entry) .bytes)) (now (c .entry) .place) (now (bap .entry)) (start .0) (end .0) groups) × (now (c .exit) ≡ moved (now (c .entry)) (r .place)) ⌝ }
+{
+    let walked = conventional(c.bytes, c.place, bap, start, end, groups);
+    c.place = walked.place;
+    walked
 }
