@@ -1,3 +1,4 @@
+pub mod Agree
 pub mod Bools
 pub mod Ends
 pub mod Examples
