@@ -1,3 +1,4 @@
 pub mod Elements
 pub mod Reads
+pub mod Cursors
 pub mod Tiling

@@ -2,6 +2,7 @@
 //
 // The log has eight words an element: name, role, block, index, position, width, value, and one that is 0 until it has a use.
 // A position, width, start, count or total may be any usize: a sum is formed only after a test that keeps it small.
+pub mod cursor;
 pub mod names;
 
 use bits::Got;
