@@ -1,6 +1,6 @@
 -- A thin function's answer, from what the call below answers.
 -- Assumes nothing.
-use mathlib.Core.Path.{_≡_, refl, sym, ap, _∙_}
+use mathlib.Core.Path.{_≡_, refl, sym, ap, ap₂, _∙_}
 use mathlib.Core.List.{List}
 use lib.ListN.{length}
 use Prim.Native.Nat.{ℕ}
@@ -21,6 +21,13 @@ use Rattle.exponents.specs.Reads.{Left, left}
 use Rattle.capi.specs.Standings.{stood, stoodOf, moved, movedOf, advanced, advancedOf}
 use Rattle.capi.specs.Walks.{carried, carriedOf}
 use Rattle.capi.specs.Sets.{unpacked, unpackedOf}
+use Rattle.capi.specs.States.{rowsAfter, kept, keptOf, gathered, gatheredOf}
+use Rattle.capi.specs.Blocks.{pointersOf, pointed, pointedOf}
+use Rattle.blocks.specs.declared.AllocState.{AllocState}
+use Rattle.blocks.specs.declared.Channel.{Channel}
+use Rattle.blocks.specs.declared.Slot.{Slot}
+use Rattle.blocks.specs.Block.{allocateBlockOf}
+use Rattle.blocks.specs.Side.{Stood}
 
 -- the two arms of an answer that means o
 module _ {A : Type 0} {o : Outcome A} where
@@ -59,6 +66,22 @@ module _ {o : Outcome Unit} {place : Place} {groups : Groups} {p : Ran State Uni
 module _ {o : Outcome Unit} {place : Place} {log : List ℕ} {set : ExpSet} {p : Ran Left Unit} (e : record { outcome = o; state = left (standing place log) set } ≡ p) where
   pub unpacked-as : {k b : ℕ} → told k b ≡ toldOf o → unpacked k b (place .pos) (place .count) log set ≡ unpackedOf p
   unpacked-as t = ap (λ (w : Told). record { moved = record { told = w; pos = place .pos; count = place .count; log = log }; set = set }) t ∙ ap unpackedOf e
+
+-- the same over the rows of an allocation state
+module _ {o : Outcome Unit} {st : AllocState} {p : Ran AllocState Unit} (before : List (List ℕ)) {after : List (List ℕ)} (laid : after ≡ rowsAfter before st) (e : record { outcome = o; state = st } ≡ p) where
+  pub kept-as : {k b : ℕ} → told k b ≡ toldOf o → kept k b after ≡ keptOf before p
+  kept-as t = ap₂ (λ (w : Told) (rows : List (List ℕ)). record { told = w; rows = rows }) t laid ∙ ap (keptOf before) e
+
+module _ {o : Outcome Unit} {place : Place} {log : List ℕ} {st : AllocState} {p : Ran Stood Unit} (before : List (List ℕ)) {after : List (List ℕ)} (laid : after ≡ rowsAfter before st) (e : record { outcome = o; state = record { standing = standing place log; state = st } } ≡ p) where
+  pub gathered-as : {k b : ℕ} → told k b ≡ toldOf o → gathered k b (place .pos) (place .count) log after ≡ gatheredOf before p
+  gathered-as t =
+      ap₂ (λ (w : Told) (rows : List (List ℕ)). record { moved = record { told = w; pos = place .pos; count = place .count; log = log }; rows = rows }) t laid
+      ∙ ap (gatheredOf before) e
+
+-- the same of a block, whose pointers are laid
+module _ {o : Outcome Unit} {slots : List Channel} {p : Ran (List Channel) Unit} {bap : List (List ℕ)} (laid : bap ≡ pointersOf slots) (e : record { outcome = o; state = slots } ≡ p) where
+  pub pointed-as : {k b : ℕ} → told k b ≡ toldOf o → pointed k b bap ≡ pointedOf p
+  pointed-as t = ap₂ (λ (w : Told) (rows : List (List ℕ)). record { told = w; bap = rows }) t laid ∙ ap pointedOf e
 
 -- a state that ends at one position, whether the call is taken or refused
 settled : (s s′ : Standing) (o : Outcome Unit) → s′ .place .pos ≡ s .place .pos → settle s s′ o .state .place .pos ≡ s .place .pos

@@ -10,6 +10,8 @@ use Rattle.capi.specs.Replies.{told, reply, running}
 use Rattle.capi.specs.Standings.{stood, moved, advanced, fields}
 use Rattle.capi.specs.Walks.{groupsOf, carried}
 use Rattle.capi.specs.Sets.{setOf, unpacked}
+use Rattle.capi.specs.States.{kept, gathered}
+use Rattle.capi.specs.Blocks.{pointed}
 use Rattle.capi.proofs.zela_bits_get.Kinds as get-kinds
 use Rattle.capi.proofs.zela_bits_get.Reads as get-reads
 use Rattle.capi.proofs.zela_bits_set.Kinds as set-kinds
@@ -48,6 +50,12 @@ use Rattle.capi.proofs.mantissas.zela_aht.Kinds as aht-kinds
 use Rattle.capi.proofs.mantissas.zela_aht.Reads as aht-reads
 use Rattle.capi.proofs.sets.zela_read_exponents.Kinds as read-exponents-kinds
 use Rattle.capi.proofs.sets.zela_read_exponents.Reads as read-exponents-reads
+use Rattle.capi.proofs.state.zela_delta_code.Kinds as delta-code-kinds
+use Rattle.capi.proofs.state.zela_delta_code.Reads as delta-code-reads
+use Rattle.capi.proofs.state.zela_read_delta.Kinds as read-delta-kinds
+use Rattle.capi.proofs.state.zela_read_delta.Reads as read-delta-reads
+use Rattle.capi.proofs.block.zela_allocate_block.Kinds as allocate-block-kinds
+use Rattle.capi.proofs.block.zela_allocate_block.Reads as allocate-block-reads
 
 pub get-one : (κs : Lfts 3) (a : Dens κs get-kinds.ps) (x y : ℕ) (s t : AtExit (endedOf 3 get-kinds.ps get-kinds.r) κs)
     → get-reads.Post κs a x s → get-reads.Post κs a y t
@@ -157,3 +165,21 @@ pub read-exponents-one : (κs : Lfts 8) (a : Dens κs read-exponents-kinds.ps) (
     → unpacked x (now (s .1 .1 .1 .1 .1 .1 .1 .1 .1 .1 .1 .1 .1 .0)) (now (s .1 .1 .0)) (now (s .1 .1 .1 .1 .1 .0)) (now (s .1 .0)) (setOf (now (s .1 .1 .1 .1 .1 .1 .1 .1 .1 .1 .0)) (now (s .1 .1 .1 .1 .1 .1 .1 .1 .1 .1 .1 .0)) (now (s .1 .1 .1 .1 .1 .1 .1 .1 .1 .1 .1 .1 .0)))
     ≡ unpacked y (now (t .1 .1 .1 .1 .1 .1 .1 .1 .1 .1 .1 .1 .1 .0)) (now (t .1 .1 .0)) (now (t .1 .1 .1 .1 .1 .0)) (now (t .1 .0)) (setOf (now (t .1 .1 .1 .1 .1 .1 .1 .1 .1 .1 .0)) (now (t .1 .1 .1 .1 .1 .1 .1 .1 .1 .1 .1 .0)) (now (t .1 .1 .1 .1 .1 .1 .1 .1 .1 .1 .1 .1 .0)))
 read-exponents-one κs a x y s t p q = p ∙ sym q
+
+pub delta-code-one : (κs : Lfts 2) (a : Dens κs delta-code-kinds.ps) (x y : ℕ) (s t : AtExit (endedOf 2 delta-code-kinds.ps delta-code-kinds.r) κs)
+    → delta-code-reads.Post κs a x s → delta-code-reads.Post κs a y t
+    → kept x (now (s .1 .1 .1 .1 .0)) (now (s .0))
+    ≡ kept y (now (t .1 .1 .1 .1 .0)) (now (t .0))
+delta-code-one κs a x y s t p q = p ∙ sym q
+
+pub read-delta-one : (κs : Lfts 6) (a : Dens κs read-delta-kinds.ps) (x y : ℕ) (s t : AtExit (endedOf 6 read-delta-kinds.ps read-delta-kinds.r) κs)
+    → read-delta-reads.Post κs a x s → read-delta-reads.Post κs a y t
+    → gathered x (now (s .1 .1 .1 .1 .1 .1 .1 .1 .0)) (now (s .1 .1 .0)) (now (s .1 .1 .1 .1 .1 .0)) (now (s .1 .0)) (now (s .1 .1 .1 .1 .1 .1 .0))
+    ≡ gathered y (now (t .1 .1 .1 .1 .1 .1 .1 .1 .0)) (now (t .1 .1 .0)) (now (t .1 .1 .1 .1 .1 .0)) (now (t .1 .0)) (now (t .1 .1 .1 .1 .1 .1 .0))
+read-delta-one κs a x y s t p q = p ∙ sym q
+
+pub allocate-block-one : (κs : Lfts 9) (a : Dens κs allocate-block-kinds.ps) (x y : ℕ) (s t : AtExit (endedOf 9 allocate-block-kinds.ps allocate-block-kinds.r) κs)
+    → allocate-block-reads.Post κs a x s → allocate-block-reads.Post κs a y t
+    → pointed x (now (s .1 .1 .1 .1 .1 .1 .1 .1 .1 .0)) (now (s .1 .1 .1 .1 .1 .1 .1 .1 .0))
+    ≡ pointed y (now (t .1 .1 .1 .1 .1 .1 .1 .1 .1 .0)) (now (t .1 .1 .1 .1 .1 .1 .1 .1 .0))
+allocate-block-one κs a x y s t p q = p ∙ sym q

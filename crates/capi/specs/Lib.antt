@@ -3,3 +3,5 @@ pub mod Standings
 pub mod Channels
 pub mod Walks
 pub mod Sets
+pub mod States
+pub mod Blocks

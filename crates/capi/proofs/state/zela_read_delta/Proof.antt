@@ -1,0 +1,31 @@
+-- `capi::state::zela_read_delta` meets its contract: it hands over what the call below it answers.
+-- Assumes nothing.
+use mathlib.Core.Path.{ap₂, _∙_}
+use denote.Ref.{now}
+use mir.Facts.{toZ-ofZ}
+use Rattle.syntax.specs.declared.Place.{Place}
+use Rattle.syntax.specs.Reads.{standing}
+use Rattle.blocks.specs.declared.AllocState.{AllocState}
+use Rattle.blocks.specs.Side.{readDeltaOf}
+use Rattle.capi.proofs.Laws.{gathered-as}
+use borrow.Author.Needs.{needs}
+use Rattle.capi.proofs.state.zela_read_delta.Statement.{statement}
+use Rattle.capi.proofs.state.zela_read_delta.Tie as tie
+
+returns : tie.Need-returns
+returns c =
+    let a = c .before .before .before .before .before .before .before .before .before .before .before .before .before .before .before .before .args in
+    let asked = ap₂ (λ (p : Place) (st : AllocState). readDeltaOf (now (a .frame)) (standing p (now (a .log))) st (a .slot)) (rw (toZ-ofZ (c .before .before .before .before .before .before .before .before .before .before .before .before .before .before .before .before .fits .block)) at (c .before .before .before .before .before .before .before .before .before .before .before .place-of .ensures)) (c .before .before .before .before .before .before .before .before .before .state-from .ensures) in
+    gathered-as (now (a .state)) (c .before .before .put-segments .ensures) (c .before .before .before .before .before .before .before .read-delta .ensures ∙ asked) (c .done .ensures)
+
+pub zela-read-delta-spec : {M : Type 1} → statement M
+zela-read-delta-spec =
+    tie.close
+    (tie.spec
+    (λ c κs. search needs)
+    (λ c κs. search needs)
+    (λ c κs. search needs)
+    (λ c κs. search needs)
+    (λ c κs. search needs)
+    (λ c. search needs)
+    returns)

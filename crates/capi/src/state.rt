@@ -1,0 +1,212 @@
+// The allocation state of `blocks`, in a caller's 200 bytes: eight rows of 25, first the codes, and then the segments of each slot.
+use crate::done;
+use crate::place_of;
+use blocks::AllocState;
+use tables::Delta;
+ghost use mathlib.Core.Path.{_≡_};
+ghost use mathlib.Core.List.{List};
+ghost use Prim.Native.Nat.{ℕ};
+ghost use Rattle.syntax.specs.Reads.{standing};
+ghost use Rattle.alloc.specs.Table.{from};
+ghost use Rattle.blocks.specs.Side.{deltaCodeOf, readDeltaOf};
+ghost use Rattle.capi.specs.Standings.{placeOf};
+ghost use Rattle.capi.specs.States.{rowAt, segmentsFrom, stateFrom, rowOf, rowsAfter, kept, keptOf, gathered, gatheredOf};
+
+// The segments in a row.
+fn segments_from(row: &[u8; 25]) -> Delta
+    ensures { λ r. ⌜ r ≡ segmentsFrom (now (row .entry)) ⌝ }
+{
+    let bytes = *row;
+    let offset = [
+        bytes[1],
+        bytes[2],
+        bytes[3],
+        bytes[4],
+        bytes[5],
+        bytes[6],
+        bytes[7],
+        bytes[8],
+    ];
+    let len = [
+        bytes[9],
+        bytes[10],
+        bytes[11],
+        bytes[12],
+        bytes[13],
+        bytes[14],
+        bytes[15],
+        bytes[16],
+    ];
+    let ba = [
+        bytes[17],
+        bytes[18],
+        bytes[19],
+        bytes[20],
+        bytes[21],
+        bytes[22],
+        bytes[23],
+        bytes[24],
+    ];
+    Delta {
+        count: bytes[0],
+        offset,
+        len,
+        ba,
+    }
+}
+
+// The segments of each slot.
+fn deltas_from(rows: &[[u8; 25]; 8]) -> [Delta; 7]
+    ensures { λ r. ⌜ r ≡ from 1 7 (λ i. segmentsFrom (rowAt (now (rows .entry)) i)) ⌝ }
+{
+    [
+        segments_from(&rows[1]),
+        segments_from(&rows[2]),
+        segments_from(&rows[3]),
+        segments_from(&rows[4]),
+        segments_from(&rows[5]),
+        segments_from(&rows[6]),
+        segments_from(&rows[7]),
+    ]
+}
+
+// The state in eight rows.
+pub fn state_from(rows: &[[u8; 25]; 8]) -> AllocState
+    ensures { λ r. ⌜ r ≡ stateFrom (now (rows .entry)) ⌝ }
+{
+    let codes = rows[0];
+    let fsnroffst = [
+        codes[8],
+        codes[9],
+        codes[10],
+        codes[11],
+        codes[12],
+        codes[13],
+        codes[14],
+    ];
+    let fgaincod = [
+        codes[15],
+        codes[16],
+        codes[17],
+        codes[18],
+        codes[19],
+        codes[20],
+        codes[21],
+    ];
+    let delta = deltas_from(rows);
+    AllocState {
+        bai_sent: codes[0] != 0,
+        sdcycod: codes[1],
+        fdcycod: codes[2],
+        sgaincod: codes[3],
+        dbpbcod: codes[4],
+        floorcod: codes[5],
+        csnroffst_sent: codes[6] != 0,
+        csnroffst: codes[7],
+        fsnroffst,
+        fgaincod,
+        cplleak_sent: codes[22] != 0,
+        cplfleak: codes[23],
+        cplsleak: codes[24],
+        delta,
+    }
+}
+
+// A slot's segments as a row.
+fn row_of(d: Delta) -> [u8; 25]
+    ensures { λ r. ⌜ r ≡ rowOf d ⌝ }
+{
+    let offset = d.offset;
+    let len = d.len;
+    let ba = d.ba;
+    [
+        d.count,
+        offset[0],
+        offset[1],
+        offset[2],
+        offset[3],
+        offset[4],
+        offset[5],
+        offset[6],
+        offset[7],
+        len[0],
+        len[1],
+        len[2],
+        len[3],
+        len[4],
+        len[5],
+        len[6],
+        len[7],
+        ba[0],
+        ba[1],
+        ba[2],
+        ba[3],
+        ba[4],
+        ba[5],
+        ba[6],
+        ba[7],
+    ]
+}
+
+// The segments of a state, each slot's in its row.
+fn put_segments(rows: &mut [[u8; 25]; 8], after: AllocState)
+    ensures { λ _. ⌜ now (rows .exit) ≡ rowsAfter (now (rows .entry)) after ⌝ }
+{
+    let codes = rows[0];
+    let all = [
+        codes,
+        row_of(after.delta[0]),
+        row_of(after.delta[1]),
+        row_of(after.delta[2]),
+        row_of(after.delta[3]),
+        row_of(after.delta[4]),
+        row_of(after.delta[5]),
+        row_of(after.delta[6]),
+    ];
+    *rows = all;
+}
+
+// blocks::delta_code.
+#[no_mangle]
+pub extern "C" fn zela_delta_code(
+    state: &mut [[u8; 25]; 8],
+    slot: usize,
+    code: u32,
+    block0: bool,
+    bit: &mut usize,
+) -> u8
+    ensures { λ k. ⌜ kept k (now (bit .exit)) (now (state .exit)) ≡ keptOf (now (state .entry)) (deltaCodeOf (stateFrom (now (state .entry))) slot code block0) ⌝ }
+{
+    let before = state_from(state);
+    let told = blocks::delta_code(before, slot, code, block0);
+    let after = told.state;
+    put_segments(state, after);
+    let answer = told.answer;
+    done(answer, bit)
+}
+
+// blocks::read_delta.
+#[no_mangle]
+pub extern "C" fn zela_read_delta(
+    frame: &[u8],
+    log: &mut [u32],
+    pos: &mut usize,
+    limit: usize,
+    block: i8,
+    count: &mut usize,
+    state: &mut [[u8; 25]; 8],
+    slot: usize,
+    bit: &mut usize,
+) -> u8
+    ensures { λ k. ⌜ gathered k (now (bit .exit)) (now (pos .exit)) (now (count .exit)) (now (log .exit)) (now (state .exit)) ≡ gatheredOf (now (state .entry)) (readDeltaOf (now (frame .entry)) (standing (placeOf (now (pos .entry)) limit block (now (count .entry))) (now (log .entry))) (stateFrom (now (state .entry))) slot) ⌝ }
+{
+    let place = place_of(*pos, limit, block, *count);
+    let before = state_from(state);
+    let read = blocks::read_delta(frame, log, place, before, slot);
+    *pos = read.place.pos;
+    *count = read.place.count;
+    let after = read.state;
+    put_segments(state, after);
+    let answer = read.answer;
+    done(answer, bit)
+}
