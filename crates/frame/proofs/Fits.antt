@@ -6,7 +6,6 @@ use mathlib.Core.List.{List}
 use mathlib.Core.Bool.{true, false}
 use lib.ListN.{length}
 use lib.Dec.{ltb}
-use native.Mathlib.Omega.{arith}
 use borrow.Author.Tests.{ltb-false}
 use Rattle.refusal.specs.Refusals.{Outcome, taken, refused, grounds}
 use Rattle.refusal.proofs.Laws.{past-test}
@@ -20,7 +19,7 @@ use Rattle.frame.specs.Tail.{unfit, hasAux, behind, fitOf}
 pub record Fit (len words : ℕ) (p : Place) (total : ℕ) : Type 0 where
   pub within : total ≤ p .limit
   pub short : p .limit ≤ 32768
-  pub held : total ≤ 8 * len
+  pub sound : p .limit ≤ 8 * len
   pub roomy : p .count ≤ room words
 
 pub fit-says : (len words : ℕ) (p : Place) (total : ℕ) → unfit len words p total ≡ false → Fit len words p total
@@ -29,7 +28,7 @@ fit-says len words p total e =
     let b = or-false (unsound len p) _ (a .1) in
     let s = sound-limit len p (b .0) in
     let w = ltb-false (p .limit) total (a .0) in
-    record { within = w; short = s .0; held = omega (arith, w, s .1); roomy = ltb-false (room words) (p .count) (b .1) }
+    record { within = w; short = s .0; sound = s .1; roomy = ltb-false (room words) (p .count) (b .1) }
 
 module _ (frame : List ℕ) (words : ℕ) (p : Place) (total : ℕ) {o : Outcome Unit} where
   pub fit-6 : unfit (length frame) words p total ≡ true → o ≡ refused (grounds 6 (p .pos)) → o ≡ fitOf frame words p total

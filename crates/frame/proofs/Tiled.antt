@@ -144,7 +144,7 @@ tiles-fine total user st h =
     go true = record { fine = λ g e n. (let z : 6 ≡ g .number = cc in omega arith); comes = λ a e. never e }
     go false = record { fine = λ g e. never (sym e); comes = λ a e. h }
 
-behind-least : (aux : Bool) → 18 ≤ behind aux
+pub behind-least : (aux : Bool) → 18 ≤ behind aux
 unfolding behind
 behind-least true = omega arith
 behind-least false = omega arith

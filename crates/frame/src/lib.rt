@@ -51,7 +51,7 @@ pub struct Tailed {
     pub place: Place,
 }
 
-// Whether a log of so many words can't hold so many elements.
+// Whether so many elements are past the room of a log of so many words.
 fn is_past_room(words: usize, count: usize) -> bool
     ensures { λ r. ⌜ r ≡ ltb (room words) count ⌝ }
 {
@@ -106,7 +106,7 @@ fn has_aux(frame: &[u8], total: usize) -> bool
 
 // How many bits stand behind auxbits.
 fn bits_behind(aux: bool) -> usize
-    ensures { λ r. ⌜ (r ≡ behind aux) × (r ≤ 32) ⌝ }
+    ensures { λ r. ⌜ r ≡ behind aux ⌝ }
 {
     if aux { AUXDATAL + LAST } else { LAST }
 }

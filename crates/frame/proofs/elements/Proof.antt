@@ -13,10 +13,10 @@ use Rattle.frame.proofs.elements.Statement.{statement}
 use Rattle.frame.proofs.elements.Tie as tie
 
 sub-width : tie.Need-sub-width
-sub-width c = let e = c .bits-behind .ensures .0 ∙ ap behind (c .before .has-aux .ensures) in omega (arith, e, c .before .before .before .before .pre .2)
+sub-width c = let e = c .bits-behind .ensures ∙ ap behind (c .before .has-aux .ensures) in omega (arith, e, c .before .before .before .before .pre .2)
 
 sub-width-2 : tie.Need-sub-width-2
-sub-width-2 c = let e = c .bits-behind .ensures .0 ∙ ap behind (c .before .has-aux .ensures) in omega (arith, e, c .before .before .before .before .pre .2)
+sub-width-2 c = let e = c .bits-behind .ensures ∙ ap behind (c .before .has-aux .ensures) in omega (arith, e, c .before .before .before .before .pre .2)
 
 -- the log's length after each call that it is lent to
 length-1 : (c : tie.After-slice-known2) → length (c .before .before .span .last .1 .0) ≡ length (c .before .before .before .before .before .before .before .before .args .log .now)
@@ -40,7 +40,7 @@ returns c =
     let l = c .before .before .before .before .before .before .before .before .before .before in
     let r = l .before .reader-of in
     c .finished .ensures
-    ∙ elements-are (now (a .frame)) (a .total) (a .codec) (standing (a .place) (now (a .log))) (h .has-aux .ensures) (b .bits-behind .ensures .0) _ (s .span .ensures) _
+    ∙ elements-are (now (a .frame)) (a .total) (a .codec) (standing (a .place) (now (a .log))) (h .has-aux .ensures) (b .bits-behind .ensures) _ (s .span .ensures) _
     (reader-after (s .span .result) (r .result) _ (r .ensures .0) (r .ensures .1) (r .ensures .2)) _ (l .aux-length .ensures .0) _ (c .before .before .before .before .before .before .last-three .ensures) _
     (c .before .before .user-bits .ensures ∙ ap (λ (v : ℕ). userBits (record { start = a .place .pos; width = a .total - b .bits-behind .result - a .place .pos }) v) (l .aux-length .ensures .1))
 

@@ -28,20 +28,20 @@ has-aux-requires c κs =
     let a = c .before .before .before .before .before .args in
     let f = fit-says (length (now (a .frame))) (a .words) (a .place) (a .total) (sym (c .before .before .before .is-unfit .ensures) ∙ c .before .before .if1 .left) in
     let s = ltb-false (a .total) (a .place .pos + 18) (sym (c .before .is-short .ensures) ∙ c .if2 .left) in
-    (omega arith, f .held)
+    (omega arith, omega (arith, f .within, f .sound))
 
 returns-3 : tie.Need-returns-3
 returns-3 c =
     let a = c .before .before .before .before .before .before .before .before .before .before .args in
     fit-17 (now (a .frame)) (a .words) (a .place) (a .total) (sym (c .before .before .before .before .before .before .before .before .is-unfit .ensures) ∙ c .before .before .before .before .before .before .before .if1 .left)
-    (sym (c .before .before .before .before .before .before .is-short .ensures) ∙ c .before .before .before .before .before .if2 .left) (c .before .before .before .bits-behind .ensures .0 ∙ ap behind (c .before .before .before .before .has-aux .ensures))
+    (sym (c .before .before .before .before .before .before .is-short .ensures) ∙ c .before .before .before .before .before .if2 .left) (c .before .before .before .bits-behind .ensures ∙ ap behind (c .before .before .before .before .has-aux .ensures))
     (sym (c .before .before .is-short2 .ensures) ∙ c .before .if3 .taken) (c .refused3 .ensures)
 
 returns-4 : tie.Need-returns-4
 returns-4 c =
     let a = c .before .before .before .before .before .before .before .before .before .args in
     fit-done (now (a .frame)) (a .words) (a .place) (a .total) (sym (c .before .before .before .before .before .before .before .is-unfit .ensures) ∙ c .before .before .before .before .before .before .if1 .left)
-    (sym (c .before .before .before .before .before .is-short .ensures) ∙ c .before .before .before .before .if2 .left) (c .before .before .bits-behind .ensures .0 ∙ ap behind (c .before .before .before .has-aux .ensures))
+    (sym (c .before .before .before .before .before .is-short .ensures) ∙ c .before .before .before .before .if2 .left) (c .before .before .bits-behind .ensures ∙ ap behind (c .before .before .before .has-aux .ensures))
     (sym (c .before .is-short2 .ensures) ∙ c .if3 .left) refl
 
 pub fit-spec : {M : Type 1} → statement M

@@ -19,7 +19,7 @@ elements-requires c κs =
     let a = f .before .before .before .args in
     let r = fit-passed (now (a .frame)) (length (now (a .log))) (a .place) (a .total) (sym (f .fit .ensures) ∙ ap doneOf (c .before .before .enum-told .given .1)) in
     let e = ap (λ (p : Place). p .pos) (c .before .outside-blocks .ensures) in
-    (omega (arith, r .last), r .fit .held, omega (arith, e, r .all))
+    (omega (arith, r .last), omega (arith, r .fit .within, r .fit .sound), omega (arith, e, r .all))
 
 returns : tie.Need-returns
 returns c =
