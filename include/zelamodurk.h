@@ -6,15 +6,15 @@
  * THE CALLING CONVENTION, the same for every function here
  *
  *  - A function answers 0 where the call is taken, or the number of the refusal (enum zela_refusal).
- *  - What it finds goes into room that the caller lends: `value`, `is`, `bap`. Where the call is refused, that
- *    room holds 0 (false).
+ *  - What it finds goes into room that the caller lends: `value`, `is`, `bap`, `tags`, a set of exponents. Where the
+ *    call is refused, that room holds 0 (false).
  *  - A function that can refuse has `bit` as its last argument: where the call is refused, the cursor's bit
  *    that the refusal carries, which is 0 where there is no cursor; where it is taken, 0.
  *    A function without `bit` never refuses.
  *  - So all such room is written by every call, and nothing of what stood in it is read. Room that is read and written,
  *    as a cursor's position, says so.
- *  - Bytes that a call may change (`uint8_t *bytes`) are changed as the function says, and by a refused call
- *    not at all.
+ *  - Bytes and states that a call may change (`uint8_t *bytes`, `struct zela_state *state`) are changed as the function
+ *    says, and by a refused call not at all.
  *  - Bytes and words are lent as a pointer and then their number, an array whose size the prototype says as a
  *    pointer alone. A pointer is never NULL, also where the number is 0; what is lent to one call for writing
  *    overlaps nothing else that is lent to it.
@@ -103,13 +103,14 @@ uint8_t zela_crc16_zeros(uint16_t init, size_t n, uint16_t *value);
 /*
  * THE PLACE. A cursor over a frame's bytes is four numbers that the caller keeps: pos, its bit; limit, the bit that
  * nothing read may pass; block, the audio block (-1 outside); count, how many elements are logged. A call that reads
- * or logs moves *pos and *count where it is taken, and leaves them as they were where it is refused.
+ * or logs moves *pos and *count where it is taken. Where it is refused, it leaves them as they were; one that reads
+ * several elements leaves them after those that it read.
  * A place is sound where limit is at most 32,768 and at most 8 * frame_len; pos may be any number.
  *
  * THE LOG. Room of `log_words` words that the caller lends, eight to an element: name, role, block, index, position,
  * width, value, and one that is 0. Role is the role's number (enum zela_role) and 32 times its programme; block and
  * index are two's complement in 16 bits. At most 4,096 elements are taken, and no more than the words have room for.
- * A call changes the words of the element that it logs, and no others; a refused call changes none.
+ * A call changes the words of the elements that it logs, and no others.
  *
  * A role is handed over as its word. A number that no role has counts as ZELA_PLAIN, a programme is a byte.
  */
@@ -220,6 +221,151 @@ uint8_t zela_allocate(const uint8_t exponents[256], size_t start, size_t end, co
                       uint8_t cplfleak, uint8_t cplsleak, uint8_t segments, const uint8_t offset[8],
                       const uint8_t length[8], const uint8_t ba[8], bool high, const uint16_t *hearing,
                       size_t hearing_len, const uint8_t *log_add, size_t log_add_len, uint8_t bap[256], size_t *bit);
+
+/* ---- exponents: the exponents of one channel, TS 6.1.3 ---- */
+
+/*
+ * Reads the exponents of a slot for the bins from start up to end, which is not of the range: the absolute exponent and
+ * the groups, each of them an element that is logged.
+ *
+ * slot        0 to 4 the full bandwidth channels, 5 coupling, 6 LFE
+ * strategy    1, 2 or 3: D15, D25, D45
+ *
+ * Refuses, in this order:
+ * 6  where slot is above 6, strategy is not 1 to 3, start is not below end, or end is above 256;
+ * then for each element what zela_read_element refuses, and of a group that has been read
+ * 7  where it is above 124,
+ * 8  where one of its three exponents is outside 0 to 24;
+ * 9  last, where the exponents end before the range does.
+ * Taken: exponents has all that were read, from bin 0 on or for coupling from start on, without those past bin 255; a bin
+ * without one has 0. *exp_start is start, *exp_end is end.
+ * Refused: exponents is all 0, *exp_start and *exp_end are 0; the elements that were read stay logged, *pos and *count are
+ * after them, and *bit is that *pos.
+ */
+uint8_t zela_read_exponents(const uint8_t *frame, size_t frame_len, uint32_t *log, size_t log_words, size_t *pos,
+                            size_t limit, int8_t block, size_t *count, uint8_t slot, uint8_t strategy, size_t start,
+                            size_t end, uint8_t exponents[256], size_t *exp_start, size_t *exp_end, size_t *bit);
+
+/* ---- walks: how far the mantissas of a channel reach, TS 6.3.5 ---- */
+
+/*
+ * Moves the cursor over the mantissas of the bins from start up to end, which is not of the range, by their codes in bap.
+ * Reads no mantissa and logs nothing.
+ *
+ * g1, g2, g4  read and written: how many members the open groups of codes 1, 2 and 4 have. All channels of a block share
+ *             them: they are 0 before its first walk, and each other walk takes what the one before it left
+ *
+ * Refuses, in this order: 6 where the place is not sound, end is before start or above 256, *g1 or *g2 is above 2, or *g4
+ * above 1; then for each bin 13 where its code is above 15, 1 where its bits pass the limit.
+ * Taken: *pos is after the last mantissa. Refused: *pos is before the mantissa that is refused, and *bit is that *pos; the
+ * groups count the mantissas before it, and where it is refused with 1, that one too.
+ */
+uint8_t zela_conventional(const uint8_t *frame, size_t frame_len, size_t *pos, size_t limit, const uint8_t bap[256],
+                          size_t start, size_t end, uint8_t *g1, uint8_t *g2, uint8_t *g4, size_t *bit);
+
+/* ---- aht: the mantissas of a channel that uses AHT, TS E.2.4.2, E.2.4.4 ---- */
+
+/*
+ * Moves the cursor over a channel's mantissas of all six blocks in the bins from start up to end, which is not of the
+ * range: gaqmod, the gain words, and the mantissas bin by bin, by their codes in hebap. Logs nothing.
+ *
+ * Refuses, in this order: 6 where the place is not sound, or end is before start or above 256; then where the walk stands
+ * 1 where the next bits pass the limit, 14 where a composite gain that has been read is above 26, and among the bins 13
+ * where a code is above 19.
+ * Taken: *pos is after the last mantissa, *tags is how many tags of large mantissas were met. Refused: *pos is where the
+ * walk ended, and *bit is that *pos; *tags is 0.
+ */
+uint8_t zela_aht(const uint8_t *frame, size_t frame_len, size_t *pos, size_t limit, const uint8_t hebap[256],
+                 size_t start, size_t end, size_t *tags, size_t *bit);
+
+/* ---- blocks: side information carried from block to block, and the allocation of a block, TS 6.2.2 ---- */
+
+/*
+ * THE STATE. The side information that a frame's blocks carry on, by its names in TS and not yet decoded; a caller keeps
+ * one for each frame. Beside what may be unsent stands whether it was sent, 0 where not: bai_sent for the five codes after
+ * it, csnroffst_sent, and cplleak_sent for cplfleak and cplsleak. What stands for each slot stands in the slots' order: 0
+ * to 4 the full bandwidth channels, 5 coupling, 6 LFE.
+ */
+struct zela_delta {
+    uint8_t count;     /* how many segments there are: the first so many of each array */
+    uint8_t offset[8]; /* deltoffst */
+    uint8_t len[8];    /* deltlen */
+    uint8_t ba[8];     /* deltba */
+};
+
+struct zela_state {
+    uint8_t bai_sent;
+    uint8_t sdcycod;
+    uint8_t fdcycod;
+    uint8_t sgaincod;
+    uint8_t dbpbcod;
+    uint8_t floorcod;
+    uint8_t csnroffst_sent;
+    uint8_t csnroffst;
+    uint8_t fsnroffst[7];
+    uint8_t fgaincod[7];
+    uint8_t cplleak_sent;
+    uint8_t cplfleak;
+    uint8_t cplsleak;
+    struct zela_delta delta[7];
+};
+
+/* The core reads a state as 200 bytes. */
+#ifdef __cplusplus
+static_assert(sizeof(struct zela_state) == 200, "struct zela_state has 200 bytes");
+#else
+typedef char zela_state_has_200_bytes[sizeof(struct zela_state) == 200 ? 1 : -1];
+#endif
+
+/*
+ * Takes a slot's deltbae code: 2 ends its segments, 0 and 1 leave them. The state is read and written.
+ * Refuses, in this order: 6 where slot is above 6; 15 where code is above 2, or 0 with block0, since block 0 has nothing to
+ * keep. *bit is 0 then.
+ * Taken: with code 2, the slot's delta is all 0; nothing else of the state is changed. Refused: nothing is.
+ */
+uint8_t zela_delta_code(struct zela_state *state, size_t slot, uint32_t code, bool block0, size_t *bit);
+
+/*
+ * Reads a slot's segments, deltnseg and one segment more than it says, each of the numbers an element that is logged. The
+ * state is read and written.
+ * Refuses, in this order: 6 where slot is above 6; then for each element what zela_read_element refuses.
+ * Taken: the slot's delta has the segments, and 0 after them; nothing else of the state is changed.
+ * Refused: nothing of the state is changed; the elements that were read stay logged, *pos and *count are after them, and
+ * *bit is that *pos.
+ */
+uint8_t zela_read_delta(const uint8_t *frame, size_t frame_len, uint32_t *log, size_t log_words, size_t *pos,
+                        size_t limit, int8_t block, size_t *count, struct zela_state *state, size_t slot, size_t *bit);
+
+/*
+ * The pointers of a block's slots.
+ *
+ * present     for each slot, whether it is there; of one that is not, the exponents and ranges are not looked at
+ * high        for each slot, pointers by the table of TS E.2.4.3.1 (hebap), else by that of TS 6.2.2.7 (bap)
+ * exponents   256 for each slot, slot by slot, by bin
+ * ranges      for each slot four bins: start and end of the range that its exponents were read for, and start and end of
+ *             the range asked for
+ * hearing, log_add   as for zela_allocate
+ *
+ * Refuses, in this order:
+ * 21 where hearing or log_add is unfit, as for zela_allocate;
+ * 11 where, of what was sent, sdcycod, fdcycod, sgaincod or dbpbcod is above 3, floorcod above 7, csnroffst above 63,
+ *    cplfleak or cplsleak above 7; where of any slot, there or not, fgaincod is above 7, fsnroffst above 15, its count of
+ *    segments above 8, or of one of them the offset above 31, the len above 15, the ba above 7; or where fscod is above 2;
+ * 10 where csnroffst was not sent, then where the five codes were not;
+ * where csnroffst and the fsnroffst of every slot that is there are 0, the call is taken, and bap is all 0;
+ * then for each slot that is there
+ * 12 where the range of its exponents does not cover the range asked for,
+ * 10 where it is coupling, and the leak was not sent,
+ * where end is at most start its range is empty, and the next slot follows,
+ * 6  where end is above 253,
+ * 8  where an exponent of the range is above 24.
+ * Taken: bap has 256 pointers for each slot, slot by slot: 0 outside its range, and all 0 where it is not there. The
+ * segments of LFE are not applied. Refused: bap is all 0, *bit is 0.
+ */
+uint8_t zela_allocate_block(const struct zela_state *state, uint8_t fscod, const bool present[7], const bool high[7],
+                            const uint8_t exponents[1792], const size_t ranges[28], const uint16_t *hearing,
+                            size_t hearing_len, const uint8_t *log_add, size_t log_add_len, uint8_t bap[1792],
+                            size_t *bit);
 
 #ifdef __cplusplus
 }

@@ -1,8 +1,9 @@
 -- Lists that are written out place by place, and a state's rows after a call that leaves it as it was.
 -- Assumes nothing.
-use mathlib.Core.Path.{_≡_, refl, ap, subst, _∙_}
+use mathlib.Core.Path.{_≡_, refl, sym, ap, subst, _∙_}
 use mathlib.Core.List.{List, [], _∷_, map}
-use Prim.Native.Nat.{ℕ, zero, suc, _<_}
+use Prim.Native.Nat.{ℕ, zero, suc, _+_, _<_}
+use native.Mathlib.Nat.{add-zero}
 use native.Mathlib.Omega.{arith}
 use lib.ListN.{length, getD}
 use Rattle.alloc.specs.Table.{from, table}
@@ -30,6 +31,11 @@ all-of d (x ∷ xs) = ap (λ (r : List _). x ∷ r) (from-suc 0 (length xs) (λ 
 
 pub table-all : {X : Type 0} (d : X) (l : List X) (n : ℕ) → length l ≡ n → table n (λ k. getD l k d) ≡ l
 table-all d l n h = subst (λ (m : ℕ). table m (λ k. getD l k d) ≡ l) h (all-of d l)
+
+-- the bytes from a place on, the first of them apart
+pub bytes-from : (l : List ℕ) (at n : ℕ) → getD l at 0 ∷ from 1 n (λ k. getD l (at + k) 0) ≡ table (suc n) (λ k. getD l (at + k) 0)
+unfolding from
+bytes-from l at n = ap (λ (k : ℕ). getD l k 0 ∷ from 1 n (λ j. getD l (at + j) 0)) (sym (add-zero at))
 
 -- a row's segments, written out again, are the row
 row-again : (row : List ℕ) → length row ≡ 25 → rowOf (segmentsFrom row) ≡ row

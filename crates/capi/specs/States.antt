@@ -1,14 +1,14 @@
 -- The allocation state in a caller's 200 bytes (struct zela_state of include/zelamodurk.h): eight rows of 25, first the codes, and then the
 -- segments of each slot.
 -- Assumes nothing.
-use Prim.Native.Nat.{ℕ}
+use Prim.Native.Nat.{ℕ, _+_}
 use mathlib.Core.Bool.{Bool, not}
 use mathlib.Core.List.{List, [], _∷_, _++_, map}
 use lib.Dec.{eqb}
 use lib.ListN.{getD}
 use Rattle.refusal.specs.Refusals.{Ran}
 use Rattle.tables.specs.declared.Delta.{Delta}
-use Rattle.alloc.specs.Table.{from}
+use Rattle.alloc.specs.Table.{from, table}
 use Rattle.blocks.specs.declared.AllocState.{AllocState}
 use Rattle.blocks.specs.Side.{Stood}
 use Rattle.capi.specs.Replies.{Told, told, toldOf}
@@ -24,7 +24,7 @@ abbrev pub byteAt : List ℕ → ℕ → ℕ
 byteAt row i = getD row i 0
 
 abbrev pub bytesAt : List ℕ → ℕ → ℕ → List ℕ
-bytesAt row i n = from i n (λ k. byteAt row k)
+bytesAt row i n = table n (λ k. byteAt row (i + k))
 
 abbrev pub isSet : List ℕ → ℕ → Bool
 isSet row i = not (eqb (byteAt row i) 0)
@@ -33,9 +33,10 @@ isSet row i = not (eqb (byteAt row i) 0)
 unfoldable pub segmentsFrom : List ℕ → Delta
 segmentsFrom row = deltaFrom (byteAt row 0) (bytesAt row 1 8) (bytesAt row 9 8) (bytesAt row 17 8)
 
--- the state of a row of codes, and each slot's segments
-abbrev pub stateWith : List ℕ → List Delta → AllocState
-stateWith codes delta =
+-- the state
+unfoldable pub stateFrom : List (List ℕ) → AllocState
+stateFrom rows =
+    let codes = rowAt rows 0 in
     record {
       «bai_sent» = isSet codes 0;
       sdcycod = byteAt codes 1;
@@ -50,12 +51,8 @@ stateWith codes delta =
       «cplleak_sent» = isSet codes 22;
       cplfleak = byteAt codes 23;
       cplsleak = byteAt codes 24;
-      delta = delta;
+      delta = from 1 7 (λ i. segmentsFrom (rowAt rows i));
     }
-
--- the state of the eight rows
-unfoldable pub stateFrom : List (List ℕ) → AllocState
-stateFrom rows = stateWith (rowAt rows 0) (from 1 7 (λ i. segmentsFrom (rowAt rows i)))
 
 -- a slot's segments as a row
 unfoldable pub rowOf : Delta → List ℕ

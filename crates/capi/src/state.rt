@@ -4,51 +4,57 @@ use crate::place_of;
 use blocks::AllocState;
 use tables::Delta;
 ghost use mathlib.Core.Path.{_≡_};
-ghost use mathlib.Core.List.{List};
-ghost use Prim.Native.Nat.{ℕ};
+ghost use Prim.Native.Nat.{_≤_};
 ghost use Rattle.syntax.specs.Reads.{standing};
 ghost use Rattle.alloc.specs.Table.{from};
 ghost use Rattle.blocks.specs.Side.{deltaCodeOf, readDeltaOf};
 ghost use Rattle.capi.specs.Standings.{placeOf};
-ghost use Rattle.capi.specs.States.{rowAt, segmentsFrom, stateFrom, rowOf, rowsAfter, kept, keptOf, gathered, gatheredOf};
+ghost use Rattle.capi.specs.States.{rowAt, bytesAt, segmentsFrom, stateFrom, rowOf, rowsAfter, kept, keptOf, gathered, gatheredOf};
+
+// Eight bytes of a row.
+fn eight(row: &[u8; 25], at: usize) -> [u8; 8]
+    requires { ⌜ at ≤ 17 ⌝ }
+    ensures { λ r. ⌜ r ≡ bytesAt (now (row .entry)) at 8 ⌝ }
+{
+    let bytes = *row;
+    [
+        bytes[at],
+        bytes[at + 1],
+        bytes[at + 2],
+        bytes[at + 3],
+        bytes[at + 4],
+        bytes[at + 5],
+        bytes[at + 6],
+        bytes[at + 7],
+    ]
+}
+
+// Seven bytes of a row.
+fn seven(row: &[u8; 25], at: usize) -> [u8; 7]
+    requires { ⌜ at ≤ 18 ⌝ }
+    ensures { λ r. ⌜ r ≡ bytesAt (now (row .entry)) at 7 ⌝ }
+{
+    let bytes = *row;
+    [
+        bytes[at],
+        bytes[at + 1],
+        bytes[at + 2],
+        bytes[at + 3],
+        bytes[at + 4],
+        bytes[at + 5],
+        bytes[at + 6],
+    ]
+}
 
 // The segments in a row.
 fn segments_from(row: &[u8; 25]) -> Delta
     ensures { λ r. ⌜ r ≡ segmentsFrom (now (row .entry)) ⌝ }
 {
-    let bytes = *row;
-    let offset = [
-        bytes[1],
-        bytes[2],
-        bytes[3],
-        bytes[4],
-        bytes[5],
-        bytes[6],
-        bytes[7],
-        bytes[8],
-    ];
-    let len = [
-        bytes[9],
-        bytes[10],
-        bytes[11],
-        bytes[12],
-        bytes[13],
-        bytes[14],
-        bytes[15],
-        bytes[16],
-    ];
-    let ba = [
-        bytes[17],
-        bytes[18],
-        bytes[19],
-        bytes[20],
-        bytes[21],
-        bytes[22],
-        bytes[23],
-        bytes[24],
-    ];
+    let offset = eight(row, 1);
+    let len = eight(row, 9);
+    let ba = eight(row, 17);
     Delta {
-        count: bytes[0],
+        count: row[0],
         offset,
         len,
         ba,
@@ -75,24 +81,8 @@ pub fn state_from(rows: &[[u8; 25]; 8]) -> AllocState
     ensures { λ r. ⌜ r ≡ stateFrom (now (rows .entry)) ⌝ }
 {
     let codes = rows[0];
-    let fsnroffst = [
-        codes[8],
-        codes[9],
-        codes[10],
-        codes[11],
-        codes[12],
-        codes[13],
-        codes[14],
-    ];
-    let fgaincod = [
-        codes[15],
-        codes[16],
-        codes[17],
-        codes[18],
-        codes[19],
-        codes[20],
-        codes[21],
-    ];
+    let fsnroffst = seven(&codes, 8);
+    let fgaincod = seven(&codes, 15);
     let delta = deltas_from(rows);
     AllocState {
         bai_sent: codes[0] != 0,
