@@ -13,21 +13,19 @@ use Rattle.alloc.specs.declared.Leak.{Leak}
 use Rattle.tables.specs.declared.Delta.{Delta}
 use Rattle.tables.specs.declared.Pointers.{Pointers}
 use Rattle.alloc.specs.Answers.{allocateOf}
-use Rattle.capi.specs.Replies.{Told, told, toldOf, Reply, reply, replyOf, running, runningOf}
 use Rattle.walks.specs.declared.Groups.{Groups}
 use Rattle.walks.specs.Walk.{State, state}
 use Rattle.exponents.specs.declared.ExpSet.{ExpSet}
 use Rattle.exponents.specs.Reads.{Left, left}
+use Rattle.blocks.specs.declared.AllocState.{AllocState}
+use Rattle.blocks.specs.declared.Channel.{Channel}
+use Rattle.blocks.specs.Side.{Stood}
+use Rattle.capi.specs.Replies.{Told, told, toldOf, Reply, reply, replyOf, running, runningOf}
 use Rattle.capi.specs.Standings.{stood, stoodOf, moved, movedOf, advanced, advancedOf}
 use Rattle.capi.specs.Walks.{carried, carriedOf}
 use Rattle.capi.specs.Sets.{unpacked, unpackedOf}
 use Rattle.capi.specs.States.{rowsAfter, kept, keptOf, gathered, gatheredOf}
 use Rattle.capi.specs.Blocks.{pointersOf, pointed, pointedOf}
-use Rattle.blocks.specs.declared.AllocState.{AllocState}
-use Rattle.blocks.specs.declared.Channel.{Channel}
-use Rattle.blocks.specs.declared.Slot.{Slot}
-use Rattle.blocks.specs.Block.{allocateBlockOf}
-use Rattle.blocks.specs.Side.{Stood}
 
 -- the two arms of an answer that means o
 module _ {A : Type 0} {o : Outcome A} where
