@@ -11,6 +11,7 @@ use syntax::Place;
 use syntax::Reader;
 use syntax::Role;
 use syntax::check_tiling;
+use syntax::cursor::Cursor;
 use syntax::is_unsound;
 use syntax::names;
 use syntax::next;
@@ -24,7 +25,8 @@ ghost use Rattle.refusal.specs.Refusals.{numberOf, grounds, refused, thenRun};
 ghost use Rattle.bits.specs.Bits.{bitsAt};
 ghost use Rattle.bits.specs.Answers.{doneOf};
 ghost use Rattle.syntax.specs.Reads.{standing, room, readerOf, seenOf, shown};
-ghost use Rattle.frame.specs.Tail.{tailedOf, unfit, hasAux, behind, fitOf, outside, userBits, tailAsk, reservedName, lengthOf, lastOf, tilesOf, elementsOf, tailOf};
+ghost use Rattle.syntax.specs.Cursors.{heldOf, over};
+ghost use Rattle.frame.specs.Tail.{userBitsOf, tailedOf, unfit, hasAux, behind, fitOf, outside, userBits, tailAsk, reservedName, lengthOf, lastOf, tilesOf, elementsOf, tailOf};
 
 // The last bits of a frame: auxdatae, one reserved bit, and the 16 of crc2.
 const LAST: usize = 18;
@@ -297,4 +299,18 @@ pub fn read_tail(frame: &[u8], log: &mut [u32], place: Place, total: usize, code
             place,
         },
     }
+}
+
+// The same at a cursor that is lent, which goes to where the reading ends.
+pub fn read_tail_at<'s, 'a, 'l>(
+    c: &'s mut Cursor<'a>,
+    log: &'l mut [u32],
+    total: usize,
+    codec: Codec,
+) -> Tail
+    ensures { λ r. ⌜ heldOf (userBitsOf r) (now (c .exit)) (now (log .exit)) ≡ over (now (c .entry)) (tailOf (now (now (c .entry) .bytes)) (standing (now (c .entry) .place) (now (log .entry))) total codec) ⌝ }
+{
+    let tailed = read_tail(c.bytes, log, c.place, total, codec);
+    c.place = tailed.place;
+    tailed.answer
 }
