@@ -5,13 +5,17 @@ use mathlib.Core.Bool.{true, false}
 use Prim.Native.Nat.{ℕ}
 use lib.ListN.{length, replicate}
 use lib.IntN.{pos, negsuc}
+use base.Fml.{GName}
+use denote.Ref.{RefT}
 use Rattle.refusal.specs.Refusals.{grounds, taken, refused, Ran}
 use Rattle.bits.specs.Bits.{bitAt, bitsAt}
 use Rattle.syntax.specs.declared.Role.{Role}
 use Rattle.syntax.specs.declared.Role.the-variants.{Plain, Sync, FrameSize, Dialnorm, Compr, Crc2, Mantissas}
 use Rattle.syntax.specs.declared.Ask.{Ask}
+use Rattle.syntax.specs.declared.cursor.Cursor.{Cursor}
 use Rattle.syntax.specs.Elements.{roleWord, roleOf, among, isDrc, isChecksum, isSpan, signedWord, signedOf, written}
 use Rattle.syntax.specs.Reads.{Standing, standing, fits, readOf, rawOf, spanOf, closes, closeOf, nextOf}
+use Rattle.syntax.specs.Cursors.{moved, opened, rawHeldOf, readAt, rawAt, closeAt}
 use Rattle.syntax.specs.Tiling.{elementAt, endAt, follows, tiles, tilingOf}
 
 -- the first bytes of an E-AC-3 frame, a cursor over them, and a log with room for three elements
@@ -72,3 +76,17 @@ pub roles : (roleWord (Dialnorm 1) ≡ 38) × (roleOf 38 ≡ Dialnorm 1) × (sig
     × (isDrc (Compr 1) ≡ true) × (isDrc (Dialnorm 1) ≡ false) × (isChecksum Crc2 ≡ true) × (isSpan Mantissas ≡ true)
 unfolding signedOf among
 roles = (refl, refl, refl, refl, refl, refl, refl, refl)
+
+-- a cursor over the same frame, wherever its bytes stand: a read moves it on in them, a refused one leaves it, closing a span counts one more
+abbrev cursor : ℕ × ℕ → GName → Cursor
+cursor at name = opened (record { ptr = at; name = name; now = frame }) 48
+
+pub over-cursor : (at : ℕ × ℕ) (name : GName)
+    → (readAt (cursor at name) (start .log) (ask 256 Sync 16) .outcome ≡ taken 0x0B77)
+    × (readAt (cursor at name) (start .log) (ask 256 Sync 16) .state .cursor
+    ≡ moved (cursor at name) (record { pos = 16; limit = 48; block = negsuc 0; count = 1 }))
+    × (rawAt (cursor at name) 33 ≡ rawHeldOf (refused (grounds 6 0)) (cursor at name))
+    × (closeAt (rawAt (cursor at name) 16 .state) (start .log) 1 Mantissas 3 .state .cursor
+    ≡ moved (cursor at name) (record { pos = 16; limit = 48; block = negsuc 0; count = 1 }))
+unfolding readOf fits rawOf closes closeOf written bitsAt bitAt
+over-cursor at name = (refl, refl, refl, refl)
