@@ -366,6 +366,60 @@ uint8_t zela_allocate_block(const struct zela_state *state, uint8_t fscod, const
                             const uint8_t exponents[1792], const size_t ranges[28], const uint16_t *hearing,
                             size_t hearing_len, const uint8_t *log_add, size_t log_add_len, uint8_t bap[1792],
                             size_t *bit);
+/* ---- probe: which syntax a frame has, and how long it is ---- */
+
+/*
+ * The syntax and the length of the frame that begins with these bytes; the rest of it need not be there.
+ * Refuses, in this order: 3 where frame_len is under 6; 2 where the first 16 bits aren't 0x0B77; 4 where bsid is at most
+ * 8, and fscod is 3 or frmsizecod above 37; 5 where bsid is 9, 10, or above 16.
+ * Taken: *eac3 says whether it is E-AC-3, else it is AC-3; *bytes is its length. Refused: *eac3 is false, *bytes and *bit
+ * are 0.
+ */
+uint8_t zela_probe(const uint8_t *frame, size_t frame_len, bool *eac3, size_t *bytes, size_t *bit);
+
+/* ---- frame: the tail, TS 4.3.4, 4.3.5, E.1.2.5, E.1.2.6 ---- */
+
+/*
+ * Reads the tail of a frame of `total` bits from the end of its audio on: auxbits, auxdatal where auxdatae is 1,
+ * auxdatae, the reserved bit and crc2, each of them an element that is logged. Then the elements of the log must tile the
+ * frame.
+ *
+ * block       read and written: a tail stands outside of any block
+ * eac3        whether the frame is E-AC-3, whose reserved bit has another name
+ *
+ * Refuses, in this order:
+ * 6  where total is above limit, the place is not sound, or *count passes the log's room;
+ * 16 where total is below *pos + 18;
+ * 17 where auxdatae is 1, and auxdatal would begin before *pos;
+ * then for each element 19 where the log is full, and after auxdatal
+ * 17 where it is above the width of auxbits;
+ * 18 last, where the elements don't tile the bits below total.
+ * Taken: the user bits are the first of auxbits, *user_bits of them from *user_start on, none where auxdatae is 0. *pos is
+ * total, *block is -1.
+ * Refused: *user_start and *user_bits are 0, *bit is *pos. With 6, 16 and the first 17 nothing is logged, and the cursor is
+ * as it was. After those *block is -1; the elements that were read stay logged, and *pos and *count are after them.
+ */
+uint8_t zela_read_tail(const uint8_t *frame, size_t frame_len, uint32_t *log, size_t log_words, size_t *pos,
+                       size_t limit, int8_t *block, size_t *count, size_t total, bool eac3, size_t *user_start,
+                       size_t *user_bits, size_t *bit);
+
+/* ---- repair: the checksums of a frame, TS 4.4.5.1, 6.10.1 ---- */
+
+/*
+ * Which checksums of a frame are good. With eac3 it is an E-AC-3 frame, which has no crc1.
+ * Refuses: 20 where frame_len is odd, above 4,096, or below 8 (4 with eac3).
+ * Taken: *crc1 says whether the CRC of bytes 2 up to the 5/8 point is 0, and is false with eac3; *crc2 says whether that
+ * of bytes 2 up to the end is 0. Refused: both are false, *bit is 0.
+ */
+uint8_t zela_crc_status(const uint8_t *frame, size_t frame_len, bool eac3, bool *crc1, bool *crc2, size_t *bit);
+
+/*
+ * Makes the checksums of a frame good: sets bytes 2 and 3, which are crc1 and stay with eac3, and then the last two, which
+ * are crc2. Where crc2 would be 0x0B77 without eac3, the low bit of the byte before it is turned over, and crc2 is 0x8B72.
+ * Refuses: 20 where frame_len is odd, above 4,096, or below 8 (4 with eac3).
+ * Taken: no other bit of frame is changed. Refused: no bit is, *bit is 0.
+ */
+uint8_t zela_repair(uint8_t *frame, size_t frame_len, bool eac3, size_t *bit);
 
 #ifdef __cplusplus
 }

@@ -12,6 +12,7 @@ use Rattle.capi.specs.Walks.{groupsOf, carried}
 use Rattle.capi.specs.Sets.{setOf, unpacked}
 use Rattle.capi.specs.States.{kept, gathered}
 use Rattle.capi.specs.Blocks.{pointed}
+use Rattle.capi.specs.Frames.{opening, checks, stretch, closed}
 use Rattle.capi.proofs.zela_bits_get.Kinds as get-kinds
 use Rattle.capi.proofs.zela_bits_get.Reads as get-reads
 use Rattle.capi.proofs.zela_bits_set.Kinds as set-kinds
@@ -56,6 +57,14 @@ use Rattle.capi.proofs.state.zela_read_delta.Kinds as read-delta-kinds
 use Rattle.capi.proofs.state.zela_read_delta.Reads as read-delta-reads
 use Rattle.capi.proofs.block.zela_allocate_block.Kinds as allocate-block-kinds
 use Rattle.capi.proofs.block.zela_allocate_block.Reads as allocate-block-reads
+use Rattle.capi.proofs.frames.zela_probe.Kinds as probe-kinds
+use Rattle.capi.proofs.frames.zela_probe.Reads as probe-reads
+use Rattle.capi.proofs.frames.zela_read_tail.Kinds as read-tail-kinds
+use Rattle.capi.proofs.frames.zela_read_tail.Reads as read-tail-reads
+use Rattle.capi.proofs.frames.zela_crc_status.Kinds as crc-status-kinds
+use Rattle.capi.proofs.frames.zela_crc_status.Reads as crc-status-reads
+use Rattle.capi.proofs.frames.zela_repair.Kinds as repair-kinds
+use Rattle.capi.proofs.frames.zela_repair.Reads as repair-reads
 
 pub get-one : (κs : Lfts 3) (a : Dens κs get-kinds.ps) (x y : ℕ) (s t : AtExit (endedOf 3 get-kinds.ps get-kinds.r) κs)
     → get-reads.Post κs a x s → get-reads.Post κs a y t
@@ -183,3 +192,27 @@ pub allocate-block-one : (κs : Lfts 9) (a : Dens κs allocate-block-kinds.ps) (
     → pointed x (now (s .1 .1 .1 .1 .1 .1 .1 .1 .1 .0)) (now (s .1 .1 .1 .1 .1 .1 .1 .1 .0))
     ≡ pointed y (now (t .1 .1 .1 .1 .1 .1 .1 .1 .1 .0)) (now (t .1 .1 .1 .1 .1 .1 .1 .1 .0))
 allocate-block-one κs a x y s t p q = p ∙ sym q
+
+pub probe-one : (κs : Lfts 4) (a : Dens κs probe-kinds.ps) (x y : ℕ) (s t : AtExit (endedOf 4 probe-kinds.ps probe-kinds.r) κs)
+    → probe-reads.Post κs a x s → probe-reads.Post κs a y t
+    → reply x (opening (now (s .1 .0)) (now (s .1 .1 .0))) (now (s .1 .1 .1 .0))
+    ≡ reply y (opening (now (t .1 .0)) (now (t .1 .1 .0))) (now (t .1 .1 .1 .0))
+probe-one κs a x y s t p q = p ∙ sym q
+
+pub read-tail-one : (κs : Lfts 8) (a : Dens κs read-tail-kinds.ps) (x y : ℕ) (s t : AtExit (endedOf 8 read-tail-kinds.ps read-tail-kinds.r) κs)
+    → read-tail-reads.Post κs a x s → read-tail-reads.Post κs a y t
+    → closed x (stretch (now (s .1 .1 .1 .1 .1 .1 .1 .1 .0)) (now (s .1 .1 .1 .1 .1 .1 .1 .1 .1 .0))) (now (s .1 .1 .1 .1 .1 .1 .1 .1 .1 .1 .0)) (now (s .1 .1 .0)) (now (s .1 .1 .1 .1 .0)) (now (s .1 .1 .1 .1 .1 .0)) (now (s .1 .0))
+    ≡ closed y (stretch (now (t .1 .1 .1 .1 .1 .1 .1 .1 .0)) (now (t .1 .1 .1 .1 .1 .1 .1 .1 .1 .0))) (now (t .1 .1 .1 .1 .1 .1 .1 .1 .1 .1 .0)) (now (t .1 .1 .0)) (now (t .1 .1 .1 .1 .0)) (now (t .1 .1 .1 .1 .1 .0)) (now (t .1 .0))
+read-tail-one κs a x y s t p q = p ∙ sym q
+
+pub crc-status-one : (κs : Lfts 4) (a : Dens κs crc-status-kinds.ps) (x y : ℕ) (s t : AtExit (endedOf 4 crc-status-kinds.ps crc-status-kinds.r) κs)
+    → crc-status-reads.Post κs a x s → crc-status-reads.Post κs a y t
+    → reply x (checks (now (s .1 .1 .0)) (now (s .1 .1 .1 .0))) (now (s .1 .1 .1 .1 .0))
+    ≡ reply y (checks (now (t .1 .1 .0)) (now (t .1 .1 .1 .0))) (now (t .1 .1 .1 .1 .0))
+crc-status-one κs a x y s t p q = p ∙ sym q
+
+pub repair-one : (κs : Lfts 2) (a : Dens κs repair-kinds.ps) (x y : ℕ) (s t : AtExit (endedOf 2 repair-kinds.ps repair-kinds.r) κs)
+    → repair-reads.Post κs a x s → repair-reads.Post κs a y t
+    → running x (now (s .1 .1 .0)) (now (s .0))
+    ≡ running y (now (t .1 .1 .0)) (now (t .0))
+repair-one κs a x y s t p q = p ∙ sym q

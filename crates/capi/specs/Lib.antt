@@ -5,3 +5,4 @@ pub mod Walks
 pub mod Sets
 pub mod States
 pub mod Blocks
+pub mod Frames

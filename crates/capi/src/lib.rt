@@ -3,10 +3,11 @@
 // A function answers 0 where the call is taken, or the refusal's number. Values and the refusal's bit go into room that the
 // caller lends; a value is 0 where the call is refused, and the bit is 0 where it is taken. A function that never refuses has
 // no room for a bit. include/zelamodurk.h says the same for each function in C's terms.
-mod block;
-mod mantissas;
-mod sets;
-mod state;
+pub mod block;
+pub mod frames;
+pub mod mantissas;
+pub mod sets;
+pub mod state;
 
 use alloc::Codes;
 use alloc::Ended;
