@@ -148,6 +148,5 @@ pub extern "C" fn zela_crc_status(
 pub extern "C" fn zela_repair(frame: &mut [u8], eac3: bool, bit: &mut usize) -> u8
     ensures { λ k. ⌜ running k (now (bit .exit)) (now (frame .exit)) ≡ runningOf (repairOf (codecFrom eac3) (now (frame .entry))) ⌝ }
 {
-    let codec = codec_from(eac3);
-    done(repair::repair(codec, frame), bit)
+    done(repair::repair(codec_from(eac3), frame), bit)
 }

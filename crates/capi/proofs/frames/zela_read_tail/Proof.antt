@@ -21,7 +21,7 @@ returns c =
     let in-block : SFits w8 (now (a .block)) = sfits-of (c .before .before .before .before .before .before .before .before .before .before .before .before .before .before .in-block .given) in
     let at-block : SFits w8 (read .result .place .block) = sfits-of (c .before .before .before .before .struct-told .given .1 .1 .0 .1) in
     let asked = ap₂ (λ (p : Place) (k : Codec). tailOf (now (a .frame)) (standing p (now (a .log))) (a .total) k) (rw (toZ-ofZ in-block) at (c .before .before .before .before .before .before .before .before .before .before .before .place-of .ensures)) (c .before .before .before .before .before .before .before .before .before .before .codec-from .ensures) in
-    rw (toZ-ofZ at-block) (closed-as (read .ensures ∙ asked) (c .user-stretch .ensures))
+    closed-as (read .ensures ∙ asked) (toZ-ofZ at-block) (c .user-stretch .ensures)
 
 pub zela-read-tail-spec : {M : Type 1} → statement M
 zela-read-tail-spec =
