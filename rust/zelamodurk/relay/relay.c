@@ -35,7 +35,9 @@ static any *const functions[] = {
     FUNCTION(zela_role_is_drc),     FUNCTION(zela_role_is_checksum), FUNCTION(zela_role_is_span),
     FUNCTION(zela_read_element),    FUNCTION(zela_read_raw),         FUNCTION(zela_span),
     FUNCTION(zela_close_span),      FUNCTION(zela_check_tiling),     FUNCTION(zela_element_at),
-    FUNCTION(zela_allocate),
+    FUNCTION(zela_allocate),        FUNCTION(zela_read_exponents),   FUNCTION(zela_conventional),
+    FUNCTION(zela_aht),             FUNCTION(zela_delta_code),       FUNCTION(zela_read_delta),
+    FUNCTION(zela_allocate_block),
 };
 
 static uint8_t ahead[65536];

@@ -119,41 +119,69 @@ pub struct Tables<'a> {
     pub log_add: &'a [u8],
 }
 
+/// The delta segments of a slot. Of the arrays the first `count` entries are looked at.
+#[derive(Clone, Copy, Debug, Default, PartialEq, Eq, Hash)]
+pub struct Delta {
+    /// How many segments there are, 0 to 8.
+    pub count: u8,
+    /// deltoffst of each.
+    pub offset: [u8; SEGMENTS],
+    /// deltlen of each.
+    pub len: [u8; SEGMENTS],
+    /// deltba of each.
+    pub ba: [u8; SEGMENTS],
+}
+
+impl Delta {
+    /// The segments in this form. Of more than there may be the first are taken, with a number that is
+    /// refused.
+    #[inline]
+    pub fn of(segments: &[Segment]) -> Delta {
+        let mut delta = Delta {
+            count: u8::try_from(segments.len()).unwrap_or(u8::MAX),
+            ..Delta::default()
+        };
+        for (n, segment) in segments.iter().take(SEGMENTS).enumerate() {
+            delta.offset[n] = segment.offset;
+            delta.len[n] = segment.len;
+            delta.ba[n] = segment.ba;
+        }
+        delta
+    }
+
+    /// The segments one by one, at most [`SEGMENTS`].
+    pub fn segments(&self) -> impl Iterator<Item = Segment> + '_ {
+        let count = usize::from(self.count).min(SEGMENTS);
+        (0..count).map(|n| Segment {
+            offset: self.offset[n],
+            len: self.len[n],
+            ba: self.ba[n],
+        })
+    }
+}
+
 /// The side information in the plain numbers of the C interface.
 pub(crate) struct Plain {
     pub codes: [u8; 9],
     pub has_leak: bool,
     pub cplfleak: u8,
     pub cplsleak: u8,
-    pub segments: u8,
-    pub offset: [u8; SEGMENTS],
-    pub length: [u8; SEGMENTS],
-    pub ba: [u8; SEGMENTS],
+    pub delta: Delta,
     pub high: bool,
 }
 
 impl Plain {
-    /// Of more segments than there may be the first are handed over, with a number that is refused.
     #[inline]
     pub fn of(channel: &Channel) -> Plain {
         let (cplfleak, cplsleak) = channel.leak.unwrap_or_default();
-        let mut plain = Plain {
+        Plain {
             codes: channel.codes.bytes(),
             has_leak: channel.leak.is_some(),
             cplfleak,
             cplsleak,
-            segments: u8::try_from(channel.delta.len()).unwrap_or(u8::MAX),
-            offset: [0; SEGMENTS],
-            length: [0; SEGMENTS],
-            ba: [0; SEGMENTS],
+            delta: Delta::of(channel.delta),
             high: channel.pointers == Pointers::Hebap,
-        };
-        for (n, segment) in channel.delta.iter().take(SEGMENTS).enumerate() {
-            plain.offset[n] = segment.offset;
-            plain.length[n] = segment.len;
-            plain.ba[n] = segment.ba;
         }
-        plain
     }
 }
 
@@ -210,6 +238,23 @@ mod tests {
             let refusal = allocated(&vec![LOUD; count]).unwrap_err();
             assert_eq!((refusal.why, refusal.bit), (Why::CodePastTable, 0));
         }
+    }
+
+    #[test]
+    fn the_segments_come_back_from_their_form() {
+        let segment = |n| Segment {
+            offset: n,
+            len: n + 1,
+            ba: n + 2,
+        };
+        for count in 0..=8 {
+            let segments: Vec<Segment> = (0..count).map(segment).collect();
+            let delta = Delta::of(&segments);
+            assert_eq!(delta.count, count);
+            assert_eq!(delta.segments().collect::<Vec<_>>(), segments);
+        }
+        let many = Delta::of(&[LOUD; 300]);
+        assert_eq!((many.count, many.segments().count()), (255, 8));
     }
 
     #[test]

@@ -7,9 +7,13 @@
 //! between calls.
 #![allow(unsafe_code)]
 
+mod slots;
+
 use crate::alloc::{Channel, Plain, Tables, BINS};
 use crate::refusal::{outcome, Refusal};
 use crate::syntax::{Ask, Element, Place, Role, Span};
+
+pub use slots::{aht, allocate_block, conventional, delta_code, read_delta, read_exponents};
 
 extern "C" {
     fn zela_bits_get(
@@ -385,10 +389,10 @@ pub fn allocate(channel: &Channel, tables: &Tables) -> Result<[u8; BINS], Refusa
             plain.has_leak,
             plain.cplfleak,
             plain.cplsleak,
-            plain.segments,
-            plain.offset.as_ptr(),
-            plain.length.as_ptr(),
-            plain.ba.as_ptr(),
+            plain.delta.count,
+            plain.delta.offset.as_ptr(),
+            plain.delta.len.as_ptr(),
+            plain.delta.ba.as_ptr(),
             plain.high,
             tables.hearing.as_ptr(),
             tables.hearing.len(),

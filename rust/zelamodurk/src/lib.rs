@@ -13,15 +13,19 @@
 //! assert_eq!(bits::get(&frame, 0, 17).unwrap_err().why, Why::PastLimit);
 //! ```
 
+pub mod aht;
 pub mod alloc;
 pub mod bits;
+pub mod blocks;
 pub mod crc;
+pub mod exponents;
 #[cfg_attr(not(target_arch = "x86_64"), allow(dead_code))]
 mod ffi;
 mod refusal;
 #[cfg(not(target_arch = "x86_64"))]
 mod relay;
 pub mod syntax;
+pub mod walks;
 
 #[cfg(target_arch = "x86_64")]
 use ffi as core;

@@ -2,6 +2,8 @@
 //! own under the kit's emulator, as `rt` runs programs there, and each call is sent to it
 //! (`relay/relay.c`). This serves tests. It is slow, and its times say nothing.
 
+mod slots;
+
 use crate::alloc::{Channel, Plain, Tables, BINS};
 use crate::refusal::{outcome, Refusal};
 use crate::syntax::{Ask, Element, Place, Role, Span};
@@ -9,6 +11,8 @@ use std::borrow::Cow;
 use std::cell::RefCell;
 use std::io::{self, BufReader, Read, Write};
 use std::process::{Child, ChildStdin, ChildStdout, Command, Stdio};
+
+pub use slots::{aht, allocate_block, conventional, delta_code, read_delta, read_exponents};
 
 /// The kit's folder for this machine, and the program: the build script made it.
 const TOOLCHAIN: &str = env!("ZELAMODURK_TOOLCHAIN");
@@ -33,6 +37,12 @@ enum Function {
     CheckTiling,
     ElementAt,
     Allocate,
+    ReadExponents,
+    Conventional,
+    Aht,
+    DeltaCode,
+    ReadDelta,
+    AllocateBlock,
 }
 
 /// An argument of a call.
@@ -410,10 +420,10 @@ pub fn allocate(channel: &Channel, tables: &Tables) -> Result<[u8; BINS], Refusa
         Number(plain.has_leak.into()),
         Number(plain.cplfleak.into()),
         Number(plain.cplsleak.into()),
-        Number(plain.segments.into()),
-        Array(&plain.offset),
-        Array(&plain.length),
-        Array(&plain.ba),
+        Number(plain.delta.count.into()),
+        Array(&plain.delta.offset),
+        Array(&plain.delta.len),
+        Array(&plain.delta.ba),
         Number(plain.high.into()),
         Halves(tables.hearing),
         Bytes(tables.log_add),

@@ -1,0 +1,253 @@
+//! Side information and block allocation (TS 6.2.2): what the blocks of a frame carry on, and the
+//! pointers of all slots of a block. Slots 0 to 4 are the full bandwidth channels, 5 is coupling, 6 is
+//! LFE.
+
+use crate::alloc::{Bin, Delta, Pointers, Tables, BINS, SEGMENTS};
+use crate::core;
+use crate::exponents::ExpSet;
+use crate::refusal::Refusal;
+use crate::syntax::Place;
+
+/// How many slots a block has.
+pub const SLOTS: usize = 7;
+/// The bytes of a state: the header's `struct zela_state`.
+pub(crate) const STATE: usize = 200;
+/// Where the fine offsets, the fast gains, the leak and the segments begin in it.
+const FINE: usize = 8;
+const GAIN: usize = FINE + SLOTS;
+const LEAK: usize = GAIN + SLOTS;
+const DELTAS: usize = LEAK + 3;
+/// The bytes of a slot's segments.
+const DELTA: usize = 1 + 3 * SEGMENTS;
+
+/// The side information that a frame's blocks carry on, by its names in TS, not yet decoded. Beside what
+/// may be unsent stands whether it was sent. A frame begins with the default: nothing sent, no segment.
+#[derive(Clone, Copy, Debug, Default, PartialEq, Eq, Hash)]
+pub struct State {
+    /// Whether the five parameters were sent.
+    pub bai_sent: bool,
+    /// The slow decay, 0 to 3.
+    pub sdcycod: u8,
+    /// The fast decay, 0 to 3.
+    pub fdcycod: u8,
+    /// The slow gain, 0 to 3.
+    pub sgaincod: u8,
+    /// The knee, 0 to 3.
+    pub dbpbcod: u8,
+    /// The floor, 0 to 7.
+    pub floorcod: u8,
+    /// Whether the coarse SNR offset was sent.
+    pub csnroffst_sent: bool,
+    /// The coarse SNR offset, 0 to 63.
+    pub csnroffst: u8,
+    /// The fine SNR offset of each slot, 0 to 15.
+    pub fsnroffst: [u8; SLOTS],
+    /// The fast gain of each slot, 0 to 7.
+    pub fgaincod: [u8; SLOTS],
+    /// Whether the coupling leak was sent.
+    pub cplleak_sent: bool,
+    /// The fast leak of coupling, 0 to 7.
+    pub cplfleak: u8,
+    /// The slow leak of coupling, 0 to 7.
+    pub cplsleak: u8,
+    /// The delta segments of each slot. LFE's are kept and never applied.
+    pub delta: [Delta; SLOTS],
+}
+
+impl State {
+    /// The state as bytes, in the order of the fields.
+    pub(crate) fn bytes(&self) -> [u8; STATE] {
+        let mut bytes = [0; STATE];
+        bytes[..FINE].copy_from_slice(&[
+            self.bai_sent.into(),
+            self.sdcycod,
+            self.fdcycod,
+            self.sgaincod,
+            self.dbpbcod,
+            self.floorcod,
+            self.csnroffst_sent.into(),
+            self.csnroffst,
+        ]);
+        bytes[FINE..GAIN].copy_from_slice(&self.fsnroffst);
+        bytes[GAIN..LEAK].copy_from_slice(&self.fgaincod);
+        bytes[LEAK..DELTAS].copy_from_slice(&[
+            self.cplleak_sent.into(),
+            self.cplfleak,
+            self.cplsleak,
+        ]);
+        let rooms = bytes[DELTAS..].as_chunks_mut::<DELTA>().0;
+        for (delta, room) in self.delta.iter().zip(rooms) {
+            room[0] = delta.count;
+            let rows = room[1..].as_chunks_mut::<SEGMENTS>().0;
+            rows.copy_from_slice(&[delta.offset, delta.len, delta.ba]);
+        }
+        bytes
+    }
+
+    /// The state of its bytes.
+    pub(crate) fn of_bytes(bytes: &[u8; STATE]) -> State {
+        let mut state = State {
+            bai_sent: bytes[0] != 0,
+            sdcycod: bytes[1],
+            fdcycod: bytes[2],
+            sgaincod: bytes[3],
+            dbpbcod: bytes[4],
+            floorcod: bytes[5],
+            csnroffst_sent: bytes[6] != 0,
+            csnroffst: bytes[7],
+            cplleak_sent: bytes[LEAK] != 0,
+            cplfleak: bytes[LEAK + 1],
+            cplsleak: bytes[LEAK + 2],
+            ..State::default()
+        };
+        state.fsnroffst.copy_from_slice(&bytes[FINE..GAIN]);
+        state.fgaincod.copy_from_slice(&bytes[GAIN..LEAK]);
+        let rooms = bytes[DELTAS..].as_chunks::<DELTA>().0;
+        for (delta, room) in state.delta.iter_mut().zip(rooms) {
+            delta.count = room[0];
+            let rows = room[1..].as_chunks::<SEGMENTS>().0;
+            [delta.offset, delta.len, delta.ba] = [rows[0], rows[1], rows[2]];
+        }
+        state
+    }
+}
+
+/// What a block asks for a slot.
+#[derive(Clone, Copy, Debug, PartialEq, Eq, Hash)]
+pub struct Slot<'a> {
+    /// The exponents, with the range that they were read for.
+    pub exponents: &'a ExpSet,
+    /// The first bin of the range.
+    pub start: Bin,
+    /// The bin after the range.
+    pub end: Bin,
+    /// Which table the pointers are taken from.
+    pub pointers: Pointers,
+}
+
+/// The slots of a block, with none for one that is not there.
+pub type Slots<'a> = [Option<Slot<'a>>; SLOTS];
+
+/// The pointers of a block's slots, by slot and bin.
+pub type Block = [[u8; BINS]; SLOTS];
+
+/// The slots in the plain numbers of the C interface.
+pub(crate) struct Plain {
+    pub present: [u8; SLOTS],
+    pub high: [u8; SLOTS],
+    pub exponents: Block,
+    pub ranges: [[usize; 4]; SLOTS],
+}
+
+impl Plain {
+    #[inline]
+    pub fn of(slots: &Slots) -> Plain {
+        let mut plain = Plain {
+            present: [0; SLOTS],
+            high: [0; SLOTS],
+            exponents: [[0; BINS]; SLOTS],
+            ranges: [[0; 4]; SLOTS],
+        };
+        for (n, slot) in slots.iter().enumerate() {
+            if let Some(slot) = slot {
+                let set = slot.exponents;
+                plain.present[n] = 1;
+                plain.high[n] = (slot.pointers == Pointers::Hebap).into();
+                plain.exponents[n] = set.exp;
+                plain.ranges[n] = [set.start.0, set.end.0, slot.start.0, slot.end.0];
+            }
+        }
+        plain
+    }
+}
+
+/// A slot's deltbae code: 2 ends its segments, 0 and 1 leave them. The state is as it was where it is
+/// refused.
+///
+/// # Errors
+/// In this order: 6 where the slot is above 6; 15 where the code is 0 in block 0, or above 2. The bit
+/// is 0.
+#[inline]
+pub fn delta_code(state: &mut State, slot: usize, code: u32, block0: bool) -> Result<(), Refusal> {
+    core::delta_code(state, slot, code, block0)
+}
+
+/// Reads a slot's segments at the cursor: deltnseg, then offset, length and ba of one more than it says.
+/// Each element is logged, and the cursor stands after those that were read, taken or refused; the state
+/// is as it was where it is refused.
+///
+/// # Errors
+/// In this order: 6 where the slot is above 6, the place is not sound, or its count past the log's room;
+/// for each element 1 where it would pass the limit, and 19 where the log is full. The bit is the
+/// cursor's.
+#[inline]
+pub fn read_delta(
+    frame: &[u8],
+    log: &mut [u32],
+    place: &mut Place,
+    state: &mut State,
+    slot: usize,
+) -> Result<(), Refusal> {
+    core::read_delta(frame, log, place, state, slot)
+}
+
+/// The pointers of a block's slots: zeros for a slot that is not there, and for all where no SNR offset is
+/// in use. They are all zeros where it is refused.
+///
+/// # Errors
+/// In this order: 21 where a table is unfit; 11 where a code that was sent, or one of a slot, there or
+/// not, is past its table; 10 where csnroffst was not sent, and where the five parameters were not. Then,
+/// unless no SNR offset is in use, slot by slot: 12 where the exponents don't cover the range; 10 where
+/// coupling's leak was not sent; with a range that is not empty, 6 where it ends above bin 253, and 8
+/// where one of its exponents is above 24. The bit is 0.
+#[inline]
+pub fn allocate_block(
+    state: &State,
+    fscod: u8,
+    slots: &Slots,
+    tables: &Tables,
+    pointers: &mut Block,
+) -> Result<(), Refusal> {
+    core::allocate_block((state, fscod), slots, tables, pointers)
+}
+
+#[cfg(test)]
+mod tests {
+    use super::*;
+
+    #[test]
+    fn the_state_comes_back_from_its_bytes() {
+        let bytes = std::array::from_fn(|n| match n {
+            0 | 6 | LEAK => 1,
+            _ => n as u8,
+        });
+        let state = State::of_bytes(&bytes);
+        assert_eq!(state.bytes(), bytes);
+        assert_eq!((state.sdcycod, state.csnroffst), (1, 7));
+        assert_eq!((state.fsnroffst[6], state.fgaincod[6]), (14, 21));
+        assert_eq!((state.cplsleak, state.delta[0].count), (24, 25));
+        assert_eq!((state.delta[6].count, state.delta[6].ba[7]), (175, 199));
+        assert_eq!(State::default().bytes(), [0; STATE]);
+    }
+
+    #[test]
+    fn a_slot_that_is_not_there_is_handed_over_as_zeros() {
+        let set = ExpSet {
+            exp: [3; BINS],
+            start: Bin(1),
+            end: Bin(9),
+        };
+        let mut slots = [None; SLOTS];
+        slots[5] = Some(Slot {
+            exponents: &set,
+            start: Bin(2),
+            end: Bin(8),
+            pointers: Pointers::Hebap,
+        });
+        let plain = Plain::of(&slots);
+        assert_eq!(plain.present, [0, 0, 0, 0, 0, 1, 0]);
+        assert_eq!(plain.high, plain.present);
+        assert_eq!((plain.exponents[4][0], plain.exponents[5][255]), (0, 3));
+        assert_eq!((plain.ranges[4], plain.ranges[5]), ([0; 4], [1, 9, 2, 8]));
+    }
+}

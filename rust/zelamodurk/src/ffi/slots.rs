@@ -1,0 +1,241 @@
+//! The boundary of what reads, walks and allocates slots. Each call is safe as the module above says;
+//! each array has the length that the header says.
+
+use crate::alloc::{Bin, Tables, BINS};
+use crate::blocks::{self, Block, Slots, State, STATE};
+use crate::exponents::{Ask, ExpSet};
+use crate::refusal::{outcome, Refusal};
+use crate::syntax::Place;
+use crate::walks::Groups;
+
+extern "C" {
+    fn zela_read_exponents(
+        frame: *const u8,
+        frame_len: usize,
+        log: *mut u32,
+        log_words: usize,
+        pos: *mut usize,
+        limit: usize,
+        block: i8,
+        count: *mut usize,
+        slot: u8,
+        strategy: u8,
+        start: usize,
+        end: usize,
+        exponents: *mut u8,
+        exp_start: *mut usize,
+        exp_end: *mut usize,
+        bit: *mut usize,
+    ) -> u8;
+    fn zela_conventional(
+        frame: *const u8,
+        frame_len: usize,
+        pos: *mut usize,
+        limit: usize,
+        bap: *const u8,
+        start: usize,
+        end: usize,
+        g1: *mut u8,
+        g2: *mut u8,
+        g4: *mut u8,
+        bit: *mut usize,
+    ) -> u8;
+    fn zela_aht(
+        frame: *const u8,
+        frame_len: usize,
+        pos: *mut usize,
+        limit: usize,
+        hebap: *const u8,
+        start: usize,
+        end: usize,
+        tags: *mut usize,
+        bit: *mut usize,
+    ) -> u8;
+    fn zela_delta_code(
+        state: *mut [u8; STATE],
+        slot: usize,
+        code: u32,
+        block0: bool,
+        bit: *mut usize,
+    ) -> u8;
+    fn zela_read_delta(
+        frame: *const u8,
+        frame_len: usize,
+        log: *mut u32,
+        log_words: usize,
+        pos: *mut usize,
+        limit: usize,
+        block: i8,
+        count: *mut usize,
+        state: *mut [u8; STATE],
+        slot: usize,
+        bit: *mut usize,
+    ) -> u8;
+    fn zela_allocate_block(
+        state: *const [u8; STATE],
+        fscod: u8,
+        present: *const u8,
+        high: *const u8,
+        exponents: *const u8,
+        ranges: *const usize,
+        hearing: *const u16,
+        hearing_len: usize,
+        log_add: *const u8,
+        log_add_len: usize,
+        bap: *mut u8,
+        bit: *mut usize,
+    ) -> u8;
+}
+
+#[inline]
+pub fn read_exponents(
+    frame: &[u8],
+    log: &mut [u32],
+    place: &mut Place,
+    ask: &Ask,
+    set: &mut ExpSet,
+) -> Result<(), Refusal> {
+    let mut bit = 0;
+    // SAFETY: as the module says.
+    let number = unsafe {
+        zela_read_exponents(
+            frame.as_ptr(),
+            frame.len(),
+            log.as_mut_ptr(),
+            log.len(),
+            &mut place.pos,
+            place.limit,
+            place.block,
+            &mut place.count,
+            ask.slot,
+            ask.strategy,
+            ask.start.0,
+            ask.end.0,
+            set.exp.as_mut_ptr(),
+            &mut set.start.0,
+            &mut set.end.0,
+            &mut bit,
+        )
+    };
+    outcome(number, bit, ())
+}
+
+#[inline]
+pub fn conventional(
+    frame: &[u8],
+    place: &mut Place,
+    bap: &[u8; BINS],
+    (start, end): (Bin, Bin),
+    groups: &mut Groups,
+) -> Result<(), Refusal> {
+    let mut bit = 0;
+    // SAFETY: as the module says.
+    let number = unsafe {
+        zela_conventional(
+            frame.as_ptr(),
+            frame.len(),
+            &mut place.pos,
+            place.limit,
+            bap.as_ptr(),
+            start.0,
+            end.0,
+            &mut groups.g1,
+            &mut groups.g2,
+            &mut groups.g4,
+            &mut bit,
+        )
+    };
+    outcome(number, bit, ())
+}
+
+#[inline]
+pub fn aht(
+    frame: &[u8],
+    place: &mut Place,
+    hebap: &[u8; BINS],
+    (start, end): (Bin, Bin),
+) -> Result<usize, Refusal> {
+    let (mut tags, mut bit) = (0, 0);
+    // SAFETY: as the module says.
+    let number = unsafe {
+        zela_aht(
+            frame.as_ptr(),
+            frame.len(),
+            &mut place.pos,
+            place.limit,
+            hebap.as_ptr(),
+            start.0,
+            end.0,
+            &mut tags,
+            &mut bit,
+        )
+    };
+    outcome(number, bit, tags)
+}
+
+#[inline]
+pub fn delta_code(state: &mut State, slot: usize, code: u32, block0: bool) -> Result<(), Refusal> {
+    let (mut bytes, mut bit) = (state.bytes(), 0);
+    // SAFETY: as the module says.
+    let number = unsafe { zela_delta_code(&mut bytes, slot, code, block0, &mut bit) };
+    *state = State::of_bytes(&bytes);
+    outcome(number, bit, ())
+}
+
+#[inline]
+pub fn read_delta(
+    frame: &[u8],
+    log: &mut [u32],
+    place: &mut Place,
+    state: &mut State,
+    slot: usize,
+) -> Result<(), Refusal> {
+    let (mut bytes, mut bit) = (state.bytes(), 0);
+    // SAFETY: as the module says.
+    let number = unsafe {
+        zela_read_delta(
+            frame.as_ptr(),
+            frame.len(),
+            log.as_mut_ptr(),
+            log.len(),
+            &mut place.pos,
+            place.limit,
+            place.block,
+            &mut place.count,
+            &mut bytes,
+            slot,
+            &mut bit,
+        )
+    };
+    *state = State::of_bytes(&bytes);
+    outcome(number, bit, ())
+}
+
+#[inline]
+pub fn allocate_block(
+    (state, fscod): (&State, u8),
+    slots: &Slots,
+    tables: &Tables,
+    pointers: &mut Block,
+) -> Result<(), Refusal> {
+    let (bytes, plain) = (state.bytes(), blocks::Plain::of(slots));
+    let mut bit = 0;
+    // SAFETY: as the module says.
+    let number = unsafe {
+        zela_allocate_block(
+            &bytes,
+            fscod,
+            plain.present.as_ptr(),
+            plain.high.as_ptr(),
+            plain.exponents.as_flattened().as_ptr(),
+            plain.ranges.as_flattened().as_ptr(),
+            tables.hearing.as_ptr(),
+            tables.hearing.len(),
+            tables.log_add.as_ptr(),
+            tables.log_add.len(),
+            pointers.as_flattened_mut().as_mut_ptr(),
+            &mut bit,
+        )
+    };
+    outcome(number, bit, ())
+}
