@@ -5,7 +5,9 @@ use crate::rule;
 use crate::rust;
 use std::fmt;
 use zelamodurk::alloc::BINS;
+use zelamodurk::blocks::{State, SLOTS};
 use zelamodurk::syntax::{Element, Place};
+use zelamodurk::walks::Groups;
 
 /// What a call answers and leaves.
 #[derive(Clone, Debug, Default, PartialEq, Eq)]
@@ -16,7 +18,8 @@ pub struct Answer {
     pub bit: usize,
     /// The value, with 1 for true; 0 where refused.
     pub value: u32,
-    /// The bytes after a set, the pointers of an allocation; empty for the other functions.
+    /// The bytes after a set, the pointers of an allocation, the exponents of a set; empty for the other
+    /// functions.
     pub after: Vec<u8>,
     /// The cursor's numbers after the call, where it has a cursor.
     pub place: Option<Place>,
@@ -24,6 +27,12 @@ pub struct Answer {
     pub log: Vec<u32>,
     /// The element that was looked at; none where refused.
     pub element: Option<Element>,
+    /// The range of an exponent set.
+    pub range: Option<(usize, usize)>,
+    /// The groups after a conventional walk.
+    pub groups: Option<Groups>,
+    /// The allocation state after a call that may change it.
+    pub state: Option<Box<State>>,
 }
 
 impl Answer {
@@ -38,10 +47,11 @@ impl Answer {
 
     /// A refused call's answer: nothing found, nothing changed. The bit is the cursor's, and 0 where
     /// there is none.
-    fn refused(number: u8, call: &Call) -> Self {
+    pub fn refused(number: u8, call: &Call) -> Self {
         let after = match call {
             Call::Set { bytes, .. } => bytes.to_vec(),
-            Call::Allocate(_) => vec![0; BINS],
+            Call::Allocate(_) | Call::ReadExponents { .. } => vec![0; BINS],
+            Call::AllocateBlock(_) => vec![0; SLOTS * BINS],
             _ => Vec::new(),
         };
         let log = call.standing().map(|from| from.log.to_vec());
@@ -51,6 +61,9 @@ impl Answer {
             after,
             place: call.place(),
             log: log.unwrap_or_default(),
+            range: matches!(call, Call::ReadExponents { .. }).then_some((0, 0)),
+            groups: call.groups(),
+            state: call.state().copied().map(Box::new),
             ..Self::default()
         }
     }
@@ -69,6 +82,15 @@ impl fmt::Display for Answer {
         }
         if let Some(element) = self.element {
             write!(f, ", {element:?}")?;
+        }
+        if let Some((start, end)) = self.range {
+            write!(f, ", range {start}..{end}")?;
+        }
+        if let Some(groups) = self.groups {
+            write!(f, ", {groups:?}")?;
+        }
+        if let Some(state) = &self.state {
+            write!(f, ", {state:?}")?;
         }
         Ok(())
     }
@@ -102,7 +124,8 @@ impl fmt::Display for By {
 }
 
 /// What document 01 asks of a call: a refusal of its own or an empty range past the bins, where the Rust
-/// is not asked, and else the Rust's answer, which must have document 01's number.
+/// is not asked, and else the Rust's answer, which must have document 01's number. What a call that reads
+/// on is refused with comes out of the bits: the Rust's number is taken, and document 01's for a full log.
 pub fn expected(call: &Call) -> Result<Answer, String> {
     let number = rule::number(call);
     if rule::is_ports_own(call, number) {
@@ -113,6 +136,9 @@ pub fn expected(call: &Call) -> Result<Answer, String> {
             return Ok(Answer::taken(0, vec![0; BINS]));
         }
     }
+    if rule::reads_on(call) {
+        return read_on(call);
+    }
     let answer = of_the_rust(call)?;
     if answer.number == number {
         return Ok(answer);
@@ -121,6 +147,24 @@ pub fn expected(call: &Call) -> Result<Answer, String> {
         "the Rust's number is {}, document 01's {number}",
         answer.number
     ))
+}
+
+/// The Rust's answer, held to the room that the log has. The sums of a cursor near the largest number come
+/// round in the Rust: it is asked with the cursor just past its limit, where nothing can be read either.
+fn read_on(call: &Call) -> Result<Answer, String> {
+    let Some(near) = rule::reading::nearer(call) else {
+        return Ok(rule::reading::in_room(call, of_the_rust(call)?));
+    };
+    let mut answer = rule::reading::in_room(&near, of_the_rust(&near)?);
+    let moved = answer.place != near.place();
+    if moved {
+        return Err("the Rust moved a cursor past its limit".to_string());
+    }
+    answer.place = call.place();
+    if answer.number != 0 {
+        answer.bit = answer.place.map_or(0, |place| place.pos);
+    }
+    Ok(answer)
 }
 
 fn of_the_rust(call: &Call) -> Result<Answer, String> {

@@ -1,16 +1,21 @@
 //! A call of one of the functions that are compared.
 
 mod allocation;
+mod slots;
 
 use crate::sides;
 use std::borrow::Cow;
 use std::fmt;
+use zelamodurk::blocks::State;
+use zelamodurk::exponents;
 use zelamodurk::syntax::{Ask, Place, Role};
+use zelamodurk::walks::Groups;
 
 pub use allocation::Allocation;
+pub use slots::{Asking, Block, Walk};
 
 /// The functions' names, in the order of [`Call::function`].
-pub const NAMES: [&str; 13] = [
+pub const NAMES: [&str; 19] = [
     "get",
     "set",
     "range_eq",
@@ -24,6 +29,12 @@ pub const NAMES: [&str; 13] = [
     "check_tiling",
     "element_at",
     "allocate",
+    "read_exponents",
+    "conventional",
+    "aht",
+    "delta_code",
+    "read_delta",
+    "allocate_block",
 ];
 
 /// Bytes that a case lends or owns.
@@ -132,6 +143,27 @@ pub enum Call<'a> {
         k: usize,
     },
     Allocate(Box<Allocation<'a>>),
+    ReadExponents {
+        from: Standing<'a>,
+        ask: exponents::Ask,
+    },
+    Conventional {
+        walk: Box<Walk<'a>>,
+        groups: Groups,
+    },
+    Aht(Box<Walk<'a>>),
+    DeltaCode {
+        state: Box<State>,
+        slot: usize,
+        code: u32,
+        block0: bool,
+    },
+    ReadDelta {
+        from: Standing<'a>,
+        state: Box<State>,
+        slot: usize,
+    },
+    AllocateBlock(Box<Block<'a>>),
 }
 
 impl<'a> Call<'a> {
@@ -231,6 +263,44 @@ impl<'a> Call<'a> {
         Call::Allocate(Box::new(given))
     }
 
+    /// A reading of exponents.
+    pub fn read_exponents(from: Standing<'a>, ask: exponents::Ask) -> Self {
+        Call::ReadExponents { from, ask }
+    }
+
+    /// A conventional walk.
+    pub fn conventional(walk: Walk<'a>, groups: Groups) -> Self {
+        let walk = Box::new(walk);
+        Call::Conventional { walk, groups }
+    }
+
+    /// An AHT walk.
+    pub fn aht(walk: Walk<'a>) -> Self {
+        Call::Aht(Box::new(walk))
+    }
+
+    /// A deltbae code.
+    pub fn delta_code(state: State, slot: usize, code: u32, block0: bool) -> Self {
+        let state = Box::new(state);
+        Call::DeltaCode {
+            state,
+            slot,
+            code,
+            block0,
+        }
+    }
+
+    /// A reading of delta segments.
+    pub fn read_delta(from: Standing<'a>, state: State, slot: usize) -> Self {
+        let state = Box::new(state);
+        Call::ReadDelta { from, state, slot }
+    }
+
+    /// An allocation of a block.
+    pub fn allocate_block(given: Block<'a>) -> Self {
+        Call::AllocateBlock(Box::new(given))
+    }
+
     /// The function's place among [`NAMES`].
     pub fn function(&self) -> usize {
         match self {
@@ -247,6 +317,12 @@ impl<'a> Call<'a> {
             Call::CheckTiling { .. } => 10,
             Call::ElementAt { .. } => 11,
             Call::Allocate(_) => 12,
+            Call::ReadExponents { .. } => 13,
+            Call::Conventional { .. } => 14,
+            Call::Aht(_) => 15,
+            Call::DeltaCode { .. } => 16,
+            Call::ReadDelta { .. } => 17,
+            Call::AllocateBlock(_) => 18,
         }
     }
 
@@ -254,6 +330,7 @@ impl<'a> Call<'a> {
     pub fn place(&self) -> Option<Place> {
         match self {
             Call::ReadRaw { place, .. } => Some(*place),
+            Call::Conventional { walk, .. } | Call::Aht(walk) => Some(walk.place),
             _ => self.standing().map(|from| from.place),
         }
     }
@@ -263,7 +340,25 @@ impl<'a> Call<'a> {
         match self {
             Call::ReadElement { from, .. }
             | Call::Span { from, .. }
-            | Call::CloseSpan { from, .. } => Some(from),
+            | Call::CloseSpan { from, .. }
+            | Call::ReadExponents { from, .. }
+            | Call::ReadDelta { from, .. } => Some(from),
+            _ => None,
+        }
+    }
+
+    /// The groups before the call, where it has any.
+    pub fn groups(&self) -> Option<Groups> {
+        match self {
+            Call::Conventional { groups, .. } => Some(*groups),
+            _ => None,
+        }
+    }
+
+    /// The allocation state before a call that may change it.
+    pub fn state(&self) -> Option<&State> {
+        match self {
+            Call::DeltaCode { state, .. } | Call::ReadDelta { state, .. } => Some(state),
             _ => None,
         }
     }

@@ -5,6 +5,7 @@ use crate::call::Call;
 use crate::channels;
 use crate::random::Random;
 use crate::scripts;
+use crate::slots;
 
 /// Bytes that show a bit taken from the wrong place.
 const PATTERNS: [u8; 7] = [0x00, 0xFF, 0x80, 0x01, 0xA5, 0x5A, 0x7F];
@@ -53,6 +54,7 @@ pub fn all(visit: &mut impl FnMut(&Call)) {
     zero_runs(visit);
     scripts::all(visit);
     channels::all(visit);
+    slots::all(visit);
 }
 
 /// Every buffer of at most two bytes out of `patterns`.

@@ -1,5 +1,7 @@
 //! What the core answers, through the safe wrapper, on bytes and words with guards around them.
 
+mod slots;
+
 use crate::answers::Answer;
 use crate::call::{Allocation, Call, Standing};
 use std::hint::black_box;
@@ -160,7 +162,7 @@ fn logging_answer(call: &Call) -> Result<Answer, String> {
         } => logged(from, |frame, log, place| {
             syntax::close_span(frame, log, place, *name, *role, *start).map(|()| 0)
         }),
-        _ => Err("nobody answers this call".to_string()),
+        _ => slots::answer(call),
     }
 }
 

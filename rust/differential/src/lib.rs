@@ -16,5 +16,6 @@ pub mod rule;
 pub mod rust;
 pub mod scripts;
 pub mod sides;
+pub mod slots;
 pub mod tally;
 pub mod vectors;

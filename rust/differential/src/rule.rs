@@ -1,15 +1,19 @@
 //! Document 01's rules, written apart from the core.
 //!
 //! Bits: "The bits layer tests 6, then 1 for any range (position plus width) past either buffer."
-//! Syntax: "Reading one element tests 6, then 1, then 19." Allocation: [`channel`].
+//! Syntax: "Reading one element tests 6, then 1, then 19." Allocation: [`channel`] and [`block`]. Exponents,
+//! delta segments and walks: [`reading`].
 
+pub mod block;
 pub mod channel;
+pub mod reading;
 
 use crate::call::{Call, Standing};
 use zelamodurk::syntax::Place;
 
 pub use channel::is_empty_past_the_bins;
 use channel::{BAD_TABLES, CODE_PAST_TABLE, EXPONENT_OUTSIDE};
+pub use reading::reads_on;
 
 /// A width above 32, where a width is what is asked for; ranges compared and spans may be wider. A
 /// limit, a count, a span's start or an element's place that is unfit.
@@ -20,6 +24,8 @@ const PAST_LIMIT: u8 = 1;
 const NOT_TILED: u8 = 18;
 /// A log with no room for one more.
 const LOG_FULL: u8 = 19;
+/// deltbae 0 in block 0, or above 2.
+const BAD_DELTA: u8 = 15;
 
 /// The words of an element in the log, and where its position and width stand among them.
 pub const WORDS: usize = 8;
@@ -28,7 +34,8 @@ pub const POS: usize = 4;
 /// See [`WORDS`].
 pub const WIDTH: usize = 5;
 
-/// 0 for a call that document 01 takes, or the number that it refuses it with.
+/// 0 for a call that document 01 takes, or the number that it refuses it with; of a call that reads on, what
+/// is tested before anything is read.
 pub fn number(call: &Call) -> u8 {
     match call {
         Call::Get { n, .. } | Call::Set { n, .. } if *n > 32 => BAD_ARGUMENT,
@@ -57,6 +64,14 @@ pub fn number(call: &Call) -> u8 {
             first(&[(BAD_ARGUMENT, *count > room(log) || k >= count)])
         }
         Call::Allocate(given) => channel::number(given),
+        Call::AllocateBlock(given) => block::number(given),
+        Call::DeltaCode {
+            slot, code, block0, ..
+        } => first(&[
+            (BAD_ARGUMENT, *slot > 6),
+            (BAD_DELTA, (*code == 0 && *block0) || *code > 2),
+        ]),
+        _ => reading::number(call),
     }
 }
 
@@ -65,7 +80,7 @@ pub fn number(call: &Call) -> u8 {
 pub fn is_ports_own(call: &Call, number: u8) -> bool {
     match (number, call) {
         (BAD_ARGUMENT | LOG_FULL | BAD_TABLES, _) => true,
-        (EXPONENT_OUTSIDE | CODE_PAST_TABLE, Call::Allocate(_)) => true,
+        (EXPONENT_OUTSIDE | CODE_PAST_TABLE, Call::Allocate(_) | Call::AllocateBlock(_)) => true,
         (PAST_LIMIT, Call::ReadElement { from, ask }) => wraps(&from.place, ask.width),
         (PAST_LIMIT, Call::ReadRaw { place, width, .. }) => wraps(place, *width),
         (PAST_LIMIT, Call::Span { from, width, .. }) => wraps(&from.place, *width),

@@ -8,7 +8,7 @@ pub const PRESENT: bool = cfg!(oracle);
 /// Names' numbers, each with the text that stands for it in the Rust.
 pub const NAMES: [(u32, &str); 9] = [
     (0, "the smallest number"),
-    (1, "exps absolute"),
+    (1, "exps[ch][0]"),
     (32, "auxbits"),
     (34, "auxdatae"),
     (37, "crc2"),
@@ -16,6 +16,23 @@ pub const NAMES: [(u32, &str); 9] = [
     (256, "a caller's first number"),
     (0x8000_0000, "the top bit"),
     (u32::MAX, "the largest number"),
+];
+
+/// The other names that the core itself logs, with the Rust's texts.
+pub const LOGGED: [(u32, &str); 13] = [
+    (2, "exps[ch]"),
+    (3, "cplabsexp"),
+    (4, "cplexps"),
+    (5, "lfeexps[0]"),
+    (6, "lfeexps"),
+    (16, "deltnseg"),
+    (17, "deltoffst"),
+    (18, "deltlen"),
+    (19, "deltba"),
+    (20, "cpldeltnseg"),
+    (21, "cpldeltoffst"),
+    (22, "cpldeltlen"),
+    (23, "cpldeltba"),
 ];
 
 /// What the Rust does with a call.
@@ -30,13 +47,17 @@ pub struct Asked {
 }
 
 #[cfg(oracle)]
+mod block;
+#[cfg(oracle)]
 mod channel;
 #[cfg(oracle)]
 mod cursor;
+#[cfg(oracle)]
+mod reading;
 
 #[cfg(oracle)]
 mod there {
-    use super::{channel, cursor, quiet, Asked};
+    use super::{block, channel, cursor, quiet, reading, Asked};
     use crate::answers::Answer;
     use crate::call::Call;
     use crate::rule;
@@ -44,8 +65,13 @@ mod there {
 
     /// What the Rust does with a call, or none where it is not there.
     pub fn ask(call: &Call) -> Option<Asked> {
-        if let Call::Allocate(given) = call {
-            return Some(channel::ask(given));
+        match call {
+            Call::Allocate(given) => return Some(channel::ask(given)),
+            Call::AllocateBlock(given) => return Some(block::ask(given)),
+            _ => {}
+        }
+        if let Some(asked) = reading::ask(call) {
+            return Some(asked);
         }
         if let Some(asked) = cursor::ask(call) {
             return Some(asked);

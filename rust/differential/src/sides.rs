@@ -2,6 +2,7 @@
 //! Every function has them in one form; what its numbers are stands here alone.
 
 mod channel;
+mod slots;
 
 use crate::answers::Answer;
 use crate::call::{hex, word16, words_hex, Call, Standing};
@@ -82,7 +83,7 @@ fn lent_to_syntax(call: &Call) -> Side {
         ),
         Call::CheckTiling { log, count, total } => logged(log, [*count, *total]),
         Call::ElementAt { log, count, k } => logged(log, [*count, *k]),
-        _ => Side::default(),
+        _ => slots::lent(call),
     }
 }
 

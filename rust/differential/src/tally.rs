@@ -79,7 +79,7 @@ impl Tally {
 impl fmt::Display for Tally {
     fn fmt(&self, f: &mut fmt::Formatter<'_>) -> fmt::Result {
         let numbers = self.numbers();
-        write!(f, "{:<14}", "function")?;
+        write!(f, "{:<16}", "function")?;
         for number in &numbers {
             let title = match number {
                 0 => "0 (taken)".to_string(),
@@ -89,7 +89,7 @@ impl fmt::Display for Tally {
         }
         writeln!(f, "{:>12}", "cases")?;
         for (name, row) in NAMES.iter().zip(&self.counts) {
-            write!(f, "{name:<14}")?;
+            write!(f, "{name:<16}")?;
             for number in &numbers {
                 write!(f, "{:>12}", row.get(number).unwrap_or(&0))?;
             }

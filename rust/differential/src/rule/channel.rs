@@ -24,7 +24,7 @@ pub fn number(given: &Allocation) -> u8 {
     let bins = given.start..given.end;
     let outside = |(bin, exponent): (usize, &u8)| bins.contains(&bin) && *exponent > 24;
     first(&[
-        (BAD_TABLES, !are_fit(given)),
+        (BAD_TABLES, !are_fit(&given.hearing, &given.log_add)),
         (CODE_PAST_TABLE, is_past(given)),
         (BAD_ARGUMENT, !bins.is_empty() && given.end > 253),
         (
@@ -35,14 +35,17 @@ pub fn number(given: &Allocation) -> u8 {
 }
 
 /// "HEARING (150 entries, 0..4095) and LOG_ADD (256 entries, 0..64) are lent by the caller and tested."
-fn are_fit(given: &Allocation) -> bool {
-    let (hearing, log_add) = (&given.hearing, &given.log_add);
+pub fn are_fit(hearing: &[u16], log_add: &[u8]) -> bool {
     let lengths = hearing.len() == 150 && log_add.len() == 256;
     lengths && hearing.iter().all(|n| *n <= 4095) && log_add.iter().all(|n| *n <= 64)
 }
 
+/// Whether one of the codes is above its largest.
+pub fn above(codes: &[u8], largest: &[u8]) -> bool {
+    codes.iter().zip(largest).any(|(n, most)| n > most)
+}
+
 fn is_past(given: &Allocation) -> bool {
-    let above = |codes: &[u8], largest: &[u8]| codes.iter().zip(largest).any(|(n, most)| n > most);
     let leak = given.leak.map_or([0; 2], |(fast, slow)| [fast, slow]);
     let mut delta = given.delta.iter();
     above(&given.codes.bytes(), &LARGEST)

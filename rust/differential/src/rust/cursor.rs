@@ -1,6 +1,6 @@
 //! The Rust's cursor, put where the core's stands, and its fields in the form of the log.
 
-use super::{quiet, Asked, NAMES};
+use super::{quiet, Asked, LOGGED, NAMES};
 use crate::answers::Answer;
 use crate::call::{word16, Call, Standing};
 use crate::rule;
@@ -54,14 +54,20 @@ fn role_word(role: Role) -> u32 {
 
 /// The text of a name's number. One that is not listed gets the first's, and shows as a difference.
 fn text(name: u32) -> &'static str {
-    let listed = NAMES.iter().find(|(number, _)| *number == name);
-    listed.unwrap_or(&NAMES[0]).1
+    let mut names = NAMES.iter().chain(&LOGGED);
+    names
+        .find(|(number, _)| *number == name)
+        .unwrap_or(&NAMES[0])
+        .1
 }
 
 /// The number of a name's text.
 fn name(text: &str) -> u32 {
-    let listed = NAMES.iter().find(|(_, other)| *other == text);
-    listed.unwrap_or(&NAMES[0]).0
+    let mut names = NAMES.iter().chain(&LOGGED);
+    names
+        .find(|(_, other)| *other == text)
+        .unwrap_or(&NAMES[0])
+        .0
 }
 
 /// The field of an element's words.
@@ -117,7 +123,8 @@ fn log(before: &[u32], had: &[Field], fields: &[Field]) -> Vec<u32> {
 pub fn ask(call: &Call) -> Option<Asked> {
     match call {
         Call::ReadRaw { frame, place, .. } => {
-            Some(moved(call, &Standing::new(&**frame, &[][..], *place)))
+            let from = Standing::new(&**frame, &[][..], *place);
+            Some(moved(&from, |cursor| step(cursor, call)))
         }
         Call::CheckTiling { log, count, total } => {
             let spans = fields(log, *count)
@@ -127,12 +134,15 @@ pub fn ask(call: &Call) -> Option<Asked> {
             tiles(&spans, *total)
         }
         Call::ElementAt { log, count, k } => Some(looked(&fields(log, *count), *k)),
-        _ => call.standing().map(|from| moved(call, from)),
+        _ => {
+            let from = call.standing()?;
+            Some(moved(from, |cursor| step(cursor, call)))
+        }
     }
 }
 
-/// A call of the cursor, from where it stands.
-fn moved(call: &Call, from: &Standing) -> Asked {
+/// A step of the cursor, from where it stands.
+pub fn moved(from: &Standing, step: impl FnOnce(&mut Cursor) -> Result<u32>) -> Asked {
     let place = from.place;
     let mut cursor = Cursor {
         data: &from.frame,
@@ -142,7 +152,7 @@ fn moved(call: &Call, from: &Standing) -> Asked {
         block: place.block,
     };
     let had = cursor.fields.clone();
-    let done = quiet::caught(|| step(&mut cursor, call));
+    let done = quiet::caught(|| step(&mut cursor));
     let mut asked = told(done, cursor.pos);
     asked.answer.place = Some(Place {
         pos: cursor.pos,
@@ -184,18 +194,40 @@ fn step(cursor: &mut Cursor, call: &Call) -> Result<u32> {
     }
 }
 
-/// What the Rust told, or none where it panicked. Its refusals have no number; the cursor's bit goes
-/// with them.
-fn told(done: Option<Result<u32>>, bit: usize) -> Asked {
+/// The Rust's refusals have no number: what each says, and the number that document 01 gives it.
+const TEXTS: [(&str, u8); 12] = [
+    ("exponent reuse where new", 6),
+    ("exponent range", 6),
+    ("grouped exponent", 7),
+    ("outside 0..24", 8),
+    ("shorter than its mantissa range", 9),
+    ("before transmission", 10),
+    ("do not cover", 12),
+    ("bap above", 13),
+    ("composite GAQ gain", 14),
+    ("deltbae", 15),
+    ("does not follow bit", 18),
+    ("elements end at bit", 18),
+];
+
+/// The number of a refusal; one that is not listed shows as a difference.
+pub fn number(error: &Error) -> u8 {
+    let said = match error {
+        Error::Truncated(_) => return 1,
+        Error::Invalid(said) => said,
+        _ => return u8::MAX,
+    };
+    let listed = TEXTS.iter().find(|(text, _)| said.contains(text));
+    listed.map_or(u8::MAX, |(_, number)| *number)
+}
+
+/// What the Rust told, or none where it panicked. The cursor's bit goes with a refusal.
+pub fn told(done: Option<Result<u32>>, bit: usize) -> Asked {
     let mut answer = Answer::default();
     match &done {
         Some(Ok(value)) => answer.value = *value,
         Some(Err(error)) => {
-            answer.number = match error {
-                Error::Truncated(_) => 1,
-                Error::Invalid(_) => 18,
-                _ => u8::MAX,
-            };
+            answer.number = number(error);
             answer.bit = bit;
         }
         None => {}
