@@ -3,6 +3,7 @@
 #![forbid(unsafe_code)]
 
 mod rust;
+mod slots;
 
 use std::hint::black_box;
 use std::time::Instant;
@@ -47,8 +48,30 @@ fn main() {
     read_element(&buffer);
     check_tiling(&buffer);
     allocate(&buffer);
+    slots::all(&buffer);
     if zelamodurk::EMULATED {
         println!("the core ran under the kit's emulator here: these times say nothing");
+    }
+}
+
+/// Bits that are written one after another.
+#[derive(Default)]
+struct Bits(Vec<bool>);
+
+impl Bits {
+    /// The low bits of a value, the highest of them first.
+    fn put(&mut self, value: u32, width: usize) {
+        self.0
+            .extend((0..width).rev().map(|bit| value >> bit & 1 == 1));
+    }
+
+    /// The bytes; the last is filled with zeros.
+    fn bytes(&self) -> Vec<u8> {
+        let mut bytes = vec![0; self.0.len().div_ceil(8)];
+        for (at, _) in self.0.iter().enumerate().filter(|(_, bit)| **bit) {
+            bytes[at / 8] |= 0x80 >> (at % 8);
+        }
+        bytes
     }
 }
 

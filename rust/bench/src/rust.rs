@@ -6,11 +6,13 @@ pub const PRESENT: bool = cfg!(oracle);
 
 #[cfg(oracle)]
 mod called {
-    use oracle::blocks::AllocState;
+    use oracle::blocks::{self, AllocState, ExpSet, Groups, SlotAlloc};
     use oracle::syntax::{check_contiguous, Cursor, Role};
     use oracle::tables::{BAP, FAST_GAIN, HEARING, LOG_ADD};
     use oracle::{alloc, bits, crc};
-    use zelamodurk::alloc::Codes;
+    use zelamodurk::alloc::{Codes, BINS};
+    use zelamodurk::blocks::{State, SLOTS};
+    use zelamodurk::exponents::Ask;
 
     /// The Rust's cursor over a frame, with room for more fields than are logged.
     pub struct Reader<'a>(Cursor<'a>);
@@ -34,6 +36,80 @@ mod called {
         #[inline(never)]
         pub fn tiles(&self, total: usize) -> bool {
             check_contiguous(&self.0.fields, total).is_ok()
+        }
+
+        /// The exponents at the frame's start.
+        #[inline(never)]
+        pub fn exponents(&mut self, ask: &Ask) -> Option<ExpSet> {
+            self.rewind();
+            let (start, end) = (ask.start.0, ask.end.0);
+            blocks::read_exponents(&mut self.0, ask.slot.into(), ask.strategy, start, end).ok()
+        }
+
+        /// A walk from the frame's start over the bins below `end`.
+        #[inline(never)]
+        pub fn conventional(&mut self, bap: &[u8; BINS], end: usize) -> bool {
+            self.rewind();
+            blocks::conventional(&mut self.0, bap, 0, end, &mut Groups::default()).is_ok()
+        }
+
+        /// An AHT walk from the frame's start over the bins below `end`.
+        #[inline(never)]
+        pub fn aht(&mut self, hebap: &[u8; BINS], end: usize) -> Option<usize> {
+            self.rewind();
+            blocks::aht(&mut self.0, hebap, 0, end).ok()
+        }
+    }
+
+    /// A block's state and exponents as the Rust takes them, and the range of each slot.
+    pub struct Block {
+        state: AllocState,
+        sets: Vec<ExpSet>,
+        ranges: [(usize, usize); SLOTS],
+    }
+
+    impl Block {
+        pub fn new(
+            state: &State,
+            sets: &[zelamodurk::exponents::ExpSet; SLOTS],
+            range: impl Fn(usize) -> (usize, usize),
+        ) -> Self {
+            let bai = [
+                state.sdcycod,
+                state.fdcycod,
+                state.sgaincod,
+                state.dbpbcod,
+                state.floorcod,
+            ];
+            let set = |set: &zelamodurk::exponents::ExpSet| ExpSet {
+                exp: set.exp.map(i16::from).to_vec(),
+                start: set.start.0,
+                end: set.end.0,
+            };
+            Block {
+                state: AllocState {
+                    bai: Some(bai),
+                    csnroffst: Some(state.csnroffst),
+                    fsnroffst: state.fsnroffst,
+                    fgaincod: state.fgaincod,
+                    cplleak: Some((state.cplfleak, state.cplsleak)),
+                    ..AllocState::default()
+                },
+                sets: sets.iter().map(set).collect(),
+                ranges: std::array::from_fn(range),
+            }
+        }
+
+        #[inline(never)]
+        pub fn allocate(&self, fscod: u8) -> Option<[Vec<u8>; SLOTS]> {
+            let slots: [SlotAlloc; SLOTS] = std::array::from_fn(|slot| SlotAlloc {
+                slot,
+                exps: &self.sets[slot],
+                start: self.ranges[slot].0,
+                end: self.ranges[slot].1,
+                high_efficiency: false,
+            });
+            blocks::allocate_block(&self.state, fscod.into(), &slots).ok()
         }
     }
 
@@ -96,7 +172,21 @@ mod called {
 
 #[cfg(not(oracle))]
 mod called {
-    use zelamodurk::alloc::Codes;
+    use zelamodurk::alloc::{Codes, BINS};
+    use zelamodurk::blocks::{State, SLOTS};
+    use zelamodurk::exponents::{Ask, ExpSet};
+
+    pub struct Block;
+
+    impl Block {
+        pub fn new(_: &State, _: &[ExpSet; SLOTS], _: impl Fn(usize) -> (usize, usize)) -> Self {
+            Block
+        }
+
+        pub fn allocate(&self, _: u8) -> Option<[Vec<u8>; SLOTS]> {
+            None
+        }
+    }
 
     pub struct Channel;
 
@@ -131,6 +221,18 @@ mod called {
         pub fn tiles(&self, _: usize) -> bool {
             true
         }
+
+        pub fn exponents(&mut self, _: &Ask) -> Option<ExpSet> {
+            None
+        }
+
+        pub fn conventional(&mut self, _: &[u8; BINS], _: usize) -> bool {
+            true
+        }
+
+        pub fn aht(&mut self, _: &[u8; BINS], _: usize) -> Option<usize> {
+            None
+        }
     }
 
     pub fn get(_: &[u8], _: usize, _: usize) -> u32 {
@@ -148,4 +250,4 @@ mod called {
     }
 }
 
-pub use called::{crc16, get, range_eq, set, tables, Channel, Reader};
+pub use called::{crc16, get, range_eq, set, tables, Block, Channel, Reader};

@@ -77,19 +77,20 @@ fn slot(state: &State, n: usize, asking: Option<&Asking>) -> u8 {
     let (set, bins) = (&asking.set, asking.start..asking.end);
     let outside = |(bin, exponent): (usize, &u8)| bins.contains(&bin) && *exponent > 24;
     first(&[
-        (
-            NOT_COVERED,
-            set.start.0 > asking.start || set.end.0 < asking.end,
-        ),
+        (NOT_COVERED, is_uncovered(asking)),
         (NOT_SENT, n == usize::from(CPL) && !state.cplleak_sent),
         (BAD_ARGUMENT, !bins.is_empty() && asking.end > 253),
         (EXPONENT_OUTSIDE, set.exp.iter().enumerate().any(outside)),
     ])
 }
 
+fn is_uncovered(asking: &Asking) -> bool {
+    asking.set.start.0 > asking.start || asking.set.end.0 < asking.end
+}
+
 /// Whether a slot's pointers are zeros whatever its exponents are, and its range is past the bins: the Rust
 /// answers as many zeros as the range says there, "the answer is 256 bins".
 pub fn is_zeros_past_the_bins(given: &Block, asking: &Asking) -> bool {
-    let empty = asking.end <= asking.start || is_silent(given);
-    empty && asking.start.max(asking.end) > BINS
+    let empty = asking.end <= asking.start && !is_uncovered(asking);
+    (empty || is_silent(given)) && asking.start.max(asking.end) > BINS
 }

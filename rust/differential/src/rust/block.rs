@@ -36,8 +36,7 @@ pub fn ask(given: &Block) -> Asked {
 /// at bin 0.
 fn near(given: &Block, asking: &Asking) -> Asking {
     let mut near = asking.clone();
-    let covered = asking.set.start.0 <= asking.start && asking.set.end.0 >= asking.end;
-    if covered && is_zeros_past_the_bins(given, asking) {
+    if is_zeros_past_the_bins(given, asking) {
         (near.set.start, near.set.end) = (Bin(0), Bin(0));
         (near.start, near.end) = (0, 0);
     }

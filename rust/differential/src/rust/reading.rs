@@ -95,18 +95,32 @@ fn observed(mut state: blocks::Groups) -> Groups {
 fn delta_code(state: &State, slot: usize, code: u32, block0: bool) -> Asked {
     let mut rusts = alloc_state(state);
     let done = quiet::caught(|| rusts.delta_code(slot, code, block0));
-    let mut asked = told(done.map(|done| done.map(|()| 0)), 0);
-    asked.answer.state = Some(Box::new(with_delta(state, &rusts)));
-    asked
+    let asked = told(done.map(|done| done.map(|()| 0)), 0);
+    with_state(asked, state, &rusts, (code == 2).then_some(slot))
 }
 
 fn read_delta(from: &Standing, state: &State, slot: usize) -> Asked {
     let mut rusts = alloc_state(state);
-    let mut asked = moved(from, |cursor| {
+    let asked = moved(from, |cursor| {
         rusts.read_delta(cursor, slot)?;
         Ok(0)
     });
-    asked.answer.state = Some(Box::new(with_delta(state, &rusts)));
+    with_state(asked, state, &rusts, Some(slot))
+}
+
+/// With the state after a call that gives a slot other segments where it is taken. What stands in the arrays
+/// after them is 0 then; the Rust has nothing there. The other slots' segments must be as they were.
+fn with_state(mut asked: Asked, before: &State, rusts: &AllocState, slot: Option<usize>) -> Asked {
+    let mut state = *before;
+    let taken = !asked.panicked && asked.answer.number == 0;
+    for (n, segments) in rusts.delta.iter().enumerate() {
+        let segments: Vec<Segment> = segments.iter().map(ours).collect();
+        let as_before = state.delta[n].segments().eq(segments.iter().copied());
+        if !as_before || (taken && slot == Some(n)) {
+            state.delta[n] = Delta::of(&segments);
+        }
+    }
+    asked.answer.state = Some(Box::new(state));
     asked
 }
 
@@ -141,17 +155,4 @@ fn rusts(segment: Segment) -> DeltaSeg {
 fn ours(segment: &DeltaSeg) -> Segment {
     let DeltaSeg { offset, len, ba } = *segment;
     Segment { offset, len, ba }
-}
-
-/// The state with the Rust's segments, where they are not as they were. An array's entries after its
-/// segments are 0 then; the Rust has none there.
-fn with_delta(before: &State, rusts: &AllocState) -> State {
-    let mut state = *before;
-    for (delta, segments) in state.delta.iter_mut().zip(&rusts.delta) {
-        let segments: Vec<Segment> = segments.iter().map(ours).collect();
-        if !delta.segments().eq(segments.iter().copied()) {
-            *delta = Delta::of(&segments);
-        }
-    }
-    state
 }

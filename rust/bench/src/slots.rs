@@ -1,0 +1,202 @@
+//! What reads, walks and allocates slots.
+
+use crate::{exponents as stream_exponents, measure, rust, Bits, CODES, END};
+use std::hint::black_box;
+use zelamodurk::alloc::{Bin, Pointers, Tables, BINS};
+use zelamodurk::blocks::{self, Slot, State, SLOTS};
+use zelamodurk::exponents::{self, Ask, ExpSet, CPL, D15, D45, LFE};
+use zelamodurk::syntax::Place;
+use zelamodurk::walks::{self, Groups};
+use zelamodurk::{aht, alloc};
+
+/// The words of a log with room for every element of a set.
+const LOG: usize = 8 * 100;
+/// The first bin of coupling, and the end of LFE.
+const CPL_START: usize = 37;
+const LFE_END: usize = 7;
+
+/// The rows of this file.
+pub fn all(bytes: &[u8]) {
+    for (name, slot, strategy, end) in [
+        ("exponents, D15, 253 bins", 0, D15, END),
+        ("exponents, D45, 253 bins", 0, D45, END),
+        ("exponents, LFE", LFE, D15, LFE_END),
+    ] {
+        let (start, end) = (Bin(0), Bin(end));
+        let ask = Ask {
+            slot,
+            strategy,
+            start,
+            end,
+        };
+        read_exponents(name, bytes, &ask);
+    }
+    allocate_block(bytes);
+    conventional(bytes);
+    for (name, gaqmod) in [("AHT walk, gaqmod 0", 0), ("AHT walk, gaqmod 3", 3)] {
+        aht_walk(name, bytes, gaqmod);
+    }
+}
+
+/// An absolute exponent and groups, each of which comes back to it.
+fn groups(bytes: &[u8]) -> Vec<u8> {
+    let mut bits = Bits::default();
+    bits.put(8, 4);
+    for byte in &bytes[..90] {
+        // No step; up by 2 and down; up by 1 and down, from the first exponent or the second.
+        bits.put([62, 102, 82, 66][usize::from(byte % 4)], 7);
+    }
+    bits.bytes()
+}
+
+/// Both log every element, and begin the log anew in each pass.
+fn read_exponents(name: &str, bytes: &[u8], ask: &Ask) {
+    let frame = groups(bytes);
+    let (begin, mut log) = (Place::new(8 * frame.len()), [0; LOG]);
+    let mut set = ExpSet::default();
+    let mut reader = rust::Reader::new(&frame);
+    measure(
+        name,
+        1.5,
+        1,
+        || {
+            let mut place = begin;
+            let read =
+                exponents::read_exponents(black_box(&frame), &mut log, &mut place, ask, &mut set);
+            assert!(black_box(read).is_ok());
+        },
+        || {
+            black_box(reader.exponents(ask));
+        },
+    );
+}
+
+/// Five full channels, coupling and LFE.
+fn allocate_block(bytes: &[u8]) {
+    let state = state();
+    let sets: [ExpSet; SLOTS] = std::array::from_fn(|slot| ExpSet {
+        exp: stream_exponents(&bytes[BINS * slot..]),
+        start: Bin(0),
+        end: Bin(END),
+    });
+    let range = |slot: usize| match slot as u8 {
+        CPL => (CPL_START, END),
+        LFE => (0, LFE_END),
+        _ => (0, END),
+    };
+    let slots = std::array::from_fn(|slot| {
+        let (start, end) = range(slot);
+        Some(Slot {
+            exponents: &sets[slot],
+            start: Bin(start),
+            end: Bin(end),
+            pointers: Pointers::Bap,
+        })
+    });
+    let (hearing, log_add) = rust::tables();
+    let tables = Tables {
+        hearing: &hearing,
+        log_add: &log_add,
+    };
+    let rusts = rust::Block::new(&state, &sets, range);
+    let mut pointers = [[0; BINS]; SLOTS];
+    measure(
+        "allocation of 7 slots",
+        1.0,
+        1,
+        || {
+            let fscod = CODES.fscod;
+            let done =
+                blocks::allocate_block(black_box(&state), fscod, &slots, &tables, &mut pointers);
+            assert!(black_box(done).is_ok());
+        },
+        || {
+            black_box(black_box(&rusts).allocate(CODES.fscod));
+        },
+    );
+}
+
+/// Codes as encoders send them, alike in all slots.
+fn state() -> State {
+    State {
+        bai_sent: true,
+        sdcycod: CODES.sdcycod,
+        fdcycod: CODES.fdcycod,
+        sgaincod: CODES.sgaincod,
+        dbpbcod: CODES.dbpbcod,
+        floorcod: CODES.floorcod,
+        csnroffst_sent: true,
+        csnroffst: CODES.csnroffst,
+        fsnroffst: [CODES.fsnroffst; SLOTS],
+        fgaincod: [CODES.fgaincod; SLOTS],
+        cplleak_sent: true,
+        ..State::default()
+    }
+}
+
+/// The pointers of a channel of 253 bins.
+fn pointers(bytes: &[u8], pointers: Pointers) -> [u8; BINS] {
+    let (hearing, log_add) = rust::tables();
+    let channel = alloc::Channel {
+        exponents: &stream_exponents(bytes),
+        start: Bin(0),
+        end: Bin(END),
+        codes: CODES,
+        leak: None,
+        delta: &[],
+        pointers,
+    };
+    let tables = Tables {
+        hearing: &hearing,
+        log_add: &log_add,
+    };
+    alloc::allocate(&channel, &tables).unwrap_or([0; BINS])
+}
+
+fn conventional(bytes: &[u8]) {
+    let bap = pointers(bytes, Pointers::Bap);
+    let begin = Place::new(8 * bytes.len());
+    let mut reader = rust::Reader::new(bytes);
+    measure(
+        "conventional walk",
+        1.0,
+        1,
+        || {
+            let (mut place, mut groups) = (begin, Groups::default());
+            let (frame, bap) = (black_box(bytes), black_box(&bap));
+            let walked = walks::conventional(frame, &mut place, bap, Bin(0), Bin(END), &mut groups);
+            assert!(black_box(walked).is_ok());
+        },
+        || {
+            black_box(reader.conventional(black_box(&bap), END));
+        },
+    );
+}
+
+/// Random bits after gaqmod, and composite gains of which none is above 26.
+fn aht_walk(name: &str, bytes: &[u8], gaqmod: u32) {
+    let hebap = pointers(bytes, Pointers::Hebap);
+    let mut bits = Bits::default();
+    bits.put(gaqmod, 2);
+    for byte in &bytes[..END] {
+        bits.put(u32::from(byte % 27), 5);
+    }
+    let mut frame = bits.bytes();
+    frame.extend_from_slice(&bytes[..bytes.len() - frame.len()]);
+    let begin = Place::new(8 * frame.len());
+    let mut reader = rust::Reader::new(&frame);
+    measure(
+        name,
+        1.0,
+        1,
+        || {
+            let mut place = begin;
+            let (frame, hebap) = (black_box(&frame), black_box(&hebap));
+            let walked = aht::aht(frame, &mut place, hebap, Bin(0), Bin(END));
+            assert!(black_box(walked).is_ok());
+        },
+        || {
+            black_box(reader.aht(black_box(&hebap), END));
+        },
+    );
+}

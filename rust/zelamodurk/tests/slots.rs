@@ -1,0 +1,240 @@
+//! The wrapper of exponents, walks and blocks: what is left after a refusal, and that no input panics.
+
+use zelamodurk::alloc::{Bin, Delta, Pointers, Segment, Tables, BINS};
+use zelamodurk::blocks::{self, Slot, State, SLOTS};
+use zelamodurk::exponents::{self, Ask, ExpSet, CPL, D15};
+use zelamodurk::syntax::{self, names, Place};
+use zelamodurk::walks::{self, Groups};
+use zelamodurk::{aht, Refusal, Why};
+
+fn refused<T: std::fmt::Debug>(outcome: Result<T, Refusal>) -> (Why, usize) {
+    let refusal = outcome.unwrap_err();
+    (refusal.why, refusal.bit)
+}
+
+const FIRST_FOUR: Ask = Ask {
+    slot: 0,
+    strategy: D15,
+    start: Bin(0),
+    end: Bin(4),
+};
+
+/// A set that holds something.
+const STALE: ExpSet = ExpSet {
+    exp: [9; BINS],
+    start: Bin(9),
+    end: Bin(9),
+};
+
+#[test]
+fn a_refused_set_is_zeros_and_what_was_read_is_logged() {
+    // Absolute exponent 5, group 125.
+    let frame = [0b0101_1111, 0b1010_0000];
+    let (mut log, mut place, mut set) = ([0; 16], Place::new(16), STALE);
+    let read = exponents::read_exponents(&frame, &mut log, &mut place, &FIRST_FOUR, &mut set);
+    assert_eq!(refused(read), (Why::GroupAbove, 11));
+    assert_eq!(set, ExpSet::default());
+    assert_eq!((place.pos, place.count), (11, 2));
+    let group = syntax::element_at(&log, 2, 1).unwrap();
+    assert_eq!(
+        (group.name, group.index, group.value),
+        (names::EXPS, 0, 125)
+    );
+}
+
+#[test]
+fn a_set_that_can_t_be_asked_for_reads_nothing() {
+    let (mut log, mut place, mut set) = ([7; 16], Place::new(16), STALE);
+    let ask = Ask {
+        slot: 7,
+        ..FIRST_FOUR
+    };
+    let read = exponents::read_exponents(&[0; 2], &mut log, &mut place, &ask, &mut set);
+    assert_eq!(refused(read), (Why::BadArgument, 0));
+    assert_eq!((set, place), (ExpSet::default(), Place::new(16)));
+    assert_eq!(log, [7; 16]);
+}
+
+/// A walk over two bins of these codes with this limit, from a group of code 4 with one member.
+fn walk(codes: [u8; 2], limit: usize) -> (Result<(), Refusal>, usize, u8) {
+    let mut bap = [0; BINS];
+    bap[..2].copy_from_slice(&codes);
+    let mut place = Place::new(limit);
+    let mut groups = Groups {
+        g4: 1,
+        ..Groups::default()
+    };
+    let walked = walks::conventional(&[0; 2], &mut place, &bap, Bin(0), Bin(2), &mut groups);
+    (walked, place.pos, groups.g4)
+}
+
+#[test]
+fn a_mantissa_past_the_limit_is_counted_and_a_code_above_15_is_not() {
+    // The group ends with the first, and the second begins another.
+    assert_eq!(walk([4, 4], 7), (Ok(()), 7, 1));
+    let (walked, pos, g4) = walk([4, 4], 6);
+    assert_eq!((refused(walked), pos, g4), ((Why::PastLimit, 0), 0, 1));
+    let (walked, pos, g4) = walk([4, 16], 6);
+    assert_eq!((refused(walked), pos, g4), ((Why::PointerAbove, 0), 0, 0));
+}
+
+#[test]
+fn groups_that_no_walk_leaves_stay_as_given() {
+    let given = Groups {
+        g1: 3,
+        g2: 9,
+        g4: 2,
+    };
+    let (mut place, mut groups) = (Place::new(16), given);
+    let walked = walks::conventional(&[0; 2], &mut place, &[1; BINS], Bin(0), Bin(2), &mut groups);
+    assert_eq!(refused(walked), (Why::BadArgument, 0));
+    assert_eq!((place, groups), (Place::new(16), given));
+}
+
+#[test]
+fn an_aht_walk_stands_where_it_was_refused() {
+    // gaqmod 3 and the composite gain 27.
+    let mut place = Place::new(16);
+    let walked = aht::aht(&[0b1111_0110, 0], &mut place, &[8; BINS], Bin(0), Bin(1));
+    assert_eq!(refused(walked), (Why::GainAbove, 7));
+    assert_eq!(place.pos, 7);
+}
+
+const LOUD: Segment = Segment {
+    offset: 1,
+    len: 1,
+    ba: 7,
+};
+
+#[test]
+fn segments_are_kept_until_a_code_ends_them() {
+    // deltnseg 0, offset 1, length 1, ba 7.
+    let frame = [0b0000_0001, 0b0001_1110];
+    let (mut log, mut place, mut state) = ([0; 32], Place::new(16), State::default());
+    let read = blocks::read_delta(&frame, &mut log, &mut place, &mut state, 5);
+    assert_eq!((read, place.pos, place.count), (Ok(()), 15, 4));
+    assert_eq!(state.delta[5].segments().collect::<Vec<_>>(), [LOUD]);
+    let first = syntax::element_at(&log, 4, 0).unwrap();
+    assert_eq!((first.name, first.index), (names::CPLDELTNSEG, 5));
+    let kept = state;
+    for code in [0, 1, 3] {
+        let coded = blocks::delta_code(&mut state, 5, code, false);
+        assert_eq!((coded.is_ok(), state), (code < 3, kept));
+    }
+    assert_eq!(blocks::delta_code(&mut state, 5, 2, false), Ok(()));
+    assert_eq!(state, State::default());
+}
+
+#[test]
+fn segments_that_break_off_leave_the_state() {
+    let (mut log, mut place) = ([0; 32], Place::new(14));
+    let mut state = State::default();
+    state.delta[0] = Delta::of(&[LOUD; 3]);
+    let kept = state;
+    let read = blocks::read_delta(&[0; 2], &mut log, &mut place, &mut state, 0);
+    assert_eq!(refused(read), (Why::PastLimit, 12));
+    assert_eq!((place.pos, place.count, state), (12, 3, kept));
+}
+
+/// The tables are fit, and not those of TS.
+const TABLES: Tables = Tables {
+    hearing: &[0; 150],
+    log_add: &[0; 256],
+};
+
+/// A state with which a slot is allocated.
+fn sent() -> State {
+    State {
+        bai_sent: true,
+        csnroffst_sent: true,
+        csnroffst: 30,
+        ..State::default()
+    }
+}
+
+#[test]
+fn a_block_has_pointers_for_the_slots_that_are_there() {
+    let set = ExpSet {
+        exp: [0; BINS],
+        start: Bin(0),
+        end: Bin(8),
+    };
+    let slot = Slot {
+        exponents: &set,
+        start: Bin(0),
+        end: Bin(8),
+        pointers: Pointers::Bap,
+    };
+    let mut slots = [None; SLOTS];
+    slots[2] = Some(slot);
+    let mut pointers = [[7; BINS]; SLOTS];
+    let done = blocks::allocate_block(&sent(), 0, &slots, &TABLES, &mut pointers);
+    assert_eq!(done, Ok(()));
+    assert!(pointers[2][..8].iter().all(|pointer| *pointer > 0));
+    assert_eq!(pointers[2][8..], [0; BINS - 8]);
+    assert_eq!(pointers[3], [0; BINS]);
+    // A slot that is refused leaves none of the pointers.
+    slots[usize::from(CPL)] = Some(slot);
+    let done = blocks::allocate_block(&sent(), 0, &slots, &TABLES, &mut pointers);
+    assert_eq!(refused(done), (Why::NotSent, 0));
+    assert_eq!(pointers, [[0; BINS]; SLOTS]);
+}
+
+/// Numbers at which a sum, a product or a cast could go wrong.
+const EXTREMES: [usize; 9] = [
+    0,
+    1,
+    255,
+    256,
+    257,
+    32_768,
+    1 << 32,
+    usize::MAX - 1,
+    usize::MAX,
+];
+
+#[test]
+fn no_number_makes_a_call_panic() {
+    let (frame, codes) = ([0xFF; 9], [255; BINS]);
+    for a in EXTREMES {
+        for b in EXTREMES {
+            for c in EXTREMES {
+                let mut place = Place {
+                    pos: a,
+                    limit: b.min(72 * (c & 1) + c),
+                    block: i8::MIN,
+                    count: c,
+                };
+                let byte = a as u8;
+                let ask = Ask {
+                    slot: byte % 9,
+                    strategy: c as u8 % 5,
+                    start: Bin(b),
+                    end: Bin(a),
+                };
+                let (mut log, mut set) = ([0; 24], STALE);
+                let _ = exponents::read_exponents(&frame, &mut log, &mut place, &ask, &mut set);
+                let mut groups = Groups {
+                    g1: byte,
+                    ..Groups::default()
+                };
+                let (start, end) = (Bin(c), Bin(b));
+                let _ = walks::conventional(&frame, &mut place, &codes, start, end, &mut groups);
+                let _ = aht::aht(&frame, &mut place, &codes, start, end);
+                let mut state = State::default();
+                state.delta = [Delta::of(&[LOUD; 8]); SLOTS];
+                let _ = blocks::delta_code(&mut state, c, b as u32, byte == 0);
+                let _ = blocks::read_delta(&frame, &mut log, &mut place, &mut state, c);
+                set.end = end;
+                let slots = [Some(Slot {
+                    exponents: &set,
+                    start,
+                    end: Bin(a),
+                    pointers: Pointers::Hebap,
+                }); SLOTS];
+                let mut pointers = [[0; BINS]; SLOTS];
+                let _ = blocks::allocate_block(&sent(), byte % 4, &slots, &TABLES, &mut pointers);
+            }
+        }
+    }
+}
