@@ -107,6 +107,8 @@ mod there {
 }
 
 #[cfg(oracle)]
+pub use block::lengths;
+#[cfg(oracle)]
 pub use channel::{pointers_by, tables};
 #[cfg(oracle)]
 pub use cursor::{index, kinds, tiles};
@@ -116,7 +118,8 @@ pub use there::ask;
 #[cfg(not(oracle))]
 mod absent {
     use super::Asked;
-    use crate::call::{Allocation, Call};
+    use crate::call::{Allocation, Block, Call};
+    use zelamodurk::blocks::SLOTS;
     use zelamodurk::syntax::Role;
 
     /// What the Rust does with a call, or none where it is not there.
@@ -144,6 +147,11 @@ mod absent {
         None
     }
 
+    /// How many pointers the Rust answers for each slot; none where it panics or refuses, or is not there.
+    pub fn lengths(_: &Block) -> Option<[usize; SLOTS]> {
+        None
+    }
+
     /// Tables that are fit, where the Rust's HEARING and LOG_ADD are not there.
     pub fn tables() -> (Vec<u16>, Vec<u8>) {
         (vec![0; 150], vec![0; 256])
@@ -151,7 +159,7 @@ mod absent {
 }
 
 #[cfg(not(oracle))]
-pub use absent::{ask, index, kinds, pointers_by, tables, tiles};
+pub use absent::{ask, index, kinds, lengths, pointers_by, tables, tiles};
 
 /// Panics caught, and not printed: the Rust's are what is looked for.
 #[cfg(oracle)]

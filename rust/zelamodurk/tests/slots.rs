@@ -221,8 +221,10 @@ fn no_number_makes_a_call_panic() {
                 let (start, end) = (Bin(c), Bin(b));
                 let _ = walks::conventional(&frame, &mut place, &codes, start, end, &mut groups);
                 let _ = aht::aht(&frame, &mut place, &codes, start, end);
-                let mut state = State::default();
-                state.delta = [Delta::of(&[LOUD; 8]); SLOTS];
+                let mut state = State {
+                    delta: [Delta::of(&[LOUD; 8]); SLOTS],
+                    ..State::default()
+                };
                 let _ = blocks::delta_code(&mut state, c, b as u32, byte == 0);
                 let _ = blocks::read_delta(&frame, &mut log, &mut place, &mut state, c);
                 set.end = end;

@@ -6,23 +6,20 @@ use super::{quiet, Asked};
 use crate::call::{Asking, Block};
 use crate::rule::block::is_zeros_past_the_bins;
 use oracle::blocks::{allocate_block, ExpSet, SlotAlloc};
+use oracle::error::Result;
 use zelamodurk::alloc::{Bin, Pointers, BINS};
 use zelamodurk::blocks::SLOTS;
 
 /// What the Rust does with a block. It answers the bins below each range's end; those after them are 0, as
 /// are those of a slot that is not there.
 pub fn ask(given: &Block) -> Asked {
-    let state = alloc_state(&given.state);
-    let slots: Vec<(usize, Asking)> = (0..SLOTS)
-        .filter_map(|n| Some((n, near(given, given.slots[n].as_ref()?))))
-        .collect();
-    let sets: Vec<ExpSet> = slots.iter().map(|(_, asking)| set(asking)).collect();
-    let asked: Vec<SlotAlloc> = slots.iter().zip(&sets).map(one).collect();
-    let done = quiet::caught(|| allocate_block(&state, given.fscod.into(), &asked));
+    let slots = given
+        .slots
+        .each_ref()
+        .map(|slot| Some(near(given, slot.as_ref()?)));
     let mut after = vec![0; SLOTS * BINS];
-    let done = done.map(|found| {
-        let found = found?;
-        for (room, bap) in after.chunks_mut(BINS).zip(found) {
+    let done = found(given, &slots).map(|found| {
+        for (room, bap) in after.chunks_mut(BINS).zip(found?) {
             room[..bap.len()].copy_from_slice(&bap);
         }
         Ok(0)
@@ -30,6 +27,21 @@ pub fn ask(given: &Block) -> Asked {
     let mut asked = told(done, 0);
     asked.answer.after = after;
     asked
+}
+
+/// What the Rust finds for slots, or none where it panics.
+fn found(given: &Block, slots: &[Option<Asking>; SLOTS]) -> Option<Result<[Vec<u8>; SLOTS]>> {
+    let state = alloc_state(&given.state);
+    let there = || (0..SLOTS).filter_map(|n| Some((n, slots[n].as_ref()?)));
+    let sets: Vec<ExpSet> = there().map(|(_, asking)| set(asking)).collect();
+    let asked: Vec<SlotAlloc> = there().zip(&sets).map(one).collect();
+    quiet::caught(|| allocate_block(&state, given.fscod.into(), &asked))
+}
+
+/// How many pointers the Rust answers for each slot; none where it panics or refuses.
+pub fn lengths(given: &Block) -> Option<[usize; SLOTS]> {
+    let found = found(given, &given.slots)?.ok()?;
+    Some(found.map(|bap| bap.len()))
 }
 
 /// The Rust answers as many zeros as a range says: one that is past the bins is handed over as an empty one
@@ -51,9 +63,9 @@ fn set(asking: &Asking) -> ExpSet {
     }
 }
 
-fn one<'a>(((slot, asking), exps): (&(usize, Asking), &'a ExpSet)) -> SlotAlloc<'a> {
+fn one<'a>(((slot, asking), exps): ((usize, &Asking), &'a ExpSet)) -> SlotAlloc<'a> {
     SlotAlloc {
-        slot: *slot,
+        slot,
         exps,
         start: asking.start,
         end: asking.end,

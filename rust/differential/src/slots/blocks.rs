@@ -200,10 +200,16 @@ impl<'a> Blocks<'a> {
                 visit(&self.spoil(&[*other, one]));
             }
         }
-        for _ in 0..TOGETHER {
+        for turn in 0..TOGETHER {
+            // In half of them nothing that is tested before the slots.
+            let of = if turn % 2 == 0 {
+                &SPOILS
+            } else {
+                &SPOILS[LATE..]
+            };
+            let some = [0; 3].map(|_| self.random.one(of));
             let count = 1 + self.random.to(2);
-            let some: Vec<Spoil> = (0..count).map(|_| self.random.one(&SPOILS)).collect();
-            visit(&self.spoil(&some));
+            visit(&self.spoil(&some[..count]));
         }
     }
 
@@ -237,6 +243,8 @@ fn segment_past(given: &mut Block, random: &mut Random, row: usize) {
     rows[row % 3][at.min(SEGMENTS - 1)] = LARGEST_SEGMENT[row % 3] + 1;
 }
 
+/// Where those begin that are tested with the slots.
+const LATE: usize = 25;
 const SPOILS: [Spoil; 36] = [
     |given, _| given.hearing.to_mut().truncate(149),
     |given, _| given.hearing.to_mut().resize(151, 0),

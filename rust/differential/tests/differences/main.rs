@@ -2,6 +2,9 @@
 //! The Rust's half holds in the profile that this is built in; `./test` builds for release.
 #![forbid(unsafe_code)]
 
+mod slots;
+
+use differential::answers::Answer;
 use differential::call::{Allocation, Call, Standing};
 use differential::{core, rust};
 use zelamodurk::alloc::{Codes, Pointers, Segment, BINS};
@@ -20,6 +23,10 @@ enum Rust {
     Reads(u32, usize),
     /// The value, the position and width of the element, and where the cursor stands then.
     Logs(u32, (usize, usize), usize),
+    /// Where the cursor stands then.
+    PanicsHavingRead(usize),
+    /// With a number.
+    Refuses(u8),
 }
 
 /// Holds the Rust to what is said of it; nothing is asked where it is not there.
@@ -32,13 +39,14 @@ fn rust_does(call: &Call, does: &Rust) {
     let pos = answer.place.map_or(0, |place| place.pos);
     let seen = match (does, asked.panicked) {
         (Rust::PanicsHavingWritten(_), true) => Rust::PanicsHavingWritten(answer.after),
+        (Rust::PanicsHavingRead(_), true) => Rust::PanicsHavingRead(pos),
         (_, true) => Rust::Panics,
+        (_, false) if answer.number > 0 => Rust::Refuses(answer.number),
         (Rust::Leaves(_), false) => Rust::Leaves(answer.after),
         (Rust::Reads(..), false) => Rust::Reads(answer.value, pos),
         (Rust::Logs(..), false) => Rust::Logs(answer.value, asked.last.unwrap_or_default(), pos),
         (_, false) => Rust::Answers(answer.value),
     };
-    assert_eq!(answer.number, 0, "the Rust: {call}");
     assert_eq!(seen, *does, "the Rust: {call}");
 }
 
@@ -55,18 +63,7 @@ fn only_debug_panics(answers: Rust) -> Rust {
 #[track_caller]
 fn core_refuses(call: &Call, number: u8) {
     let answer = core::answer(call).unwrap();
-    let bit = call.place().map_or(0, |place| place.pos);
-    assert_eq!((answer.number, answer.bit, answer.value), (number, bit, 0));
-    assert_eq!(answer.place, call.place(), "a refused call moved");
-    if let Call::Set { bytes, .. } = call {
-        assert_eq!(answer.after, **bytes, "a refused set changed a byte");
-    }
-    if let Some(from) = call.standing() {
-        assert_eq!(answer.log, *from.log, "a refused call wrote to the log");
-    }
-    if let Call::Allocate(_) = call {
-        assert_eq!(answer.after, [0; BINS], "a refused call has pointers");
-    }
+    assert_eq!(answer, Answer::refused(number, call), "the core: {call}");
 }
 
 #[track_caller]
