@@ -133,8 +133,8 @@ pub type Block = [[u8; BINS]; SLOTS];
 
 /// The slots in the plain numbers of the C interface.
 pub(crate) struct Plain {
-    pub present: [u8; SLOTS],
-    pub high: [u8; SLOTS],
+    pub present: [bool; SLOTS],
+    pub high: [bool; SLOTS],
     pub exponents: Block,
     pub ranges: [[usize; 4]; SLOTS],
 }
@@ -143,16 +143,16 @@ impl Plain {
     #[inline]
     pub fn of(slots: &Slots) -> Plain {
         let mut plain = Plain {
-            present: [0; SLOTS],
-            high: [0; SLOTS],
+            present: [false; SLOTS],
+            high: [false; SLOTS],
             exponents: [[0; BINS]; SLOTS],
             ranges: [[0; 4]; SLOTS],
         };
         for (n, slot) in slots.iter().enumerate() {
             if let Some(slot) = slot {
                 let set = slot.exponents;
-                plain.present[n] = 1;
-                plain.high[n] = (slot.pointers == Pointers::Hebap).into();
+                plain.present[n] = true;
+                plain.high[n] = slot.pointers == Pointers::Hebap;
                 plain.exponents[n] = set.exp;
                 plain.ranges[n] = [set.start.0, set.end.0, slot.start.0, slot.end.0];
             }
@@ -230,6 +230,47 @@ mod tests {
         assert_eq!(State::default().bytes(), [0; STATE]);
     }
 
+    /// The fields of one of the header's structs, and how many there are of each.
+    fn fields(name: &str) -> Vec<(&'static str, usize)> {
+        const HEADER: &str = include_str!("../../../include/zelamodurk.h");
+        let start = format!("struct {name} {{");
+        let lines = HEADER.lines().skip_while(|line| *line != start).skip(1);
+        lines
+            .take_while(|line| *line != "};")
+            .map(|line| {
+                let field = line.split(';').next().unwrap_or_default();
+                let field = field.rsplit(' ').next().unwrap_or_default();
+                match field.trim_end_matches(']').split_once('[') {
+                    Some((name, count)) => (name, count.parse().unwrap_or(0)),
+                    None => (field, 1),
+                }
+            })
+            .collect()
+    }
+
+    #[test]
+    fn the_state_is_the_headers() {
+        let delta = [("count", 1), ("offset", 8), ("len", 8), ("ba", 8)];
+        assert_eq!(fields("zela_delta"), delta);
+        let state = [
+            ("bai_sent", 1),
+            ("sdcycod", 1),
+            ("fdcycod", 1),
+            ("sgaincod", 1),
+            ("dbpbcod", 1),
+            ("floorcod", 1),
+            ("csnroffst_sent", 1),
+            ("csnroffst", 1),
+            ("fsnroffst", SLOTS),
+            ("fgaincod", SLOTS),
+            ("cplleak_sent", 1),
+            ("cplfleak", 1),
+            ("cplsleak", 1),
+            ("delta", SLOTS),
+        ];
+        assert_eq!(fields("zela_state"), state);
+    }
+
     #[test]
     fn a_slot_that_is_not_there_is_handed_over_as_zeros() {
         let set = ExpSet {
@@ -245,7 +286,7 @@ mod tests {
             pointers: Pointers::Hebap,
         });
         let plain = Plain::of(&slots);
-        assert_eq!(plain.present, [0, 0, 0, 0, 0, 1, 0]);
+        assert_eq!(plain.present.map(u8::from), [0, 0, 0, 0, 0, 1, 0]);
         assert_eq!(plain.high, plain.present);
         assert_eq!((plain.exponents[4][0], plain.exponents[5][255]), (0, 3));
         assert_eq!((plain.ranges[4], plain.ranges[5]), ([0; 4], [1, 9, 2, 8]));

@@ -295,6 +295,9 @@ fn a_block_of_one_bin_is_taken_by_both() {
     assert_eq!(Rust::Leaves(agreed(&call).after), pointer(5));
 }
 
+/// A change of a block's state.
+type Change = fn(&mut State);
+
 #[test]
 fn codes_of_a_block_past_their_tables() {
     let changes: [fn(&mut Block); 7] = [
@@ -309,7 +312,7 @@ fn codes_of_a_block_past_their_tables() {
     for change in changes {
         differ(&block(|given, _| change(given)), Rust::Panics, 11);
     }
-    let changes: [(fn(&mut State), u8); 6] = [
+    let changes: [(Change, u8); 6] = [
         (|state| state.csnroffst = 64, 15),
         (|state| state.fsnroffst[0] = 16, 6),
         (|state| state.delta[0] = Delta::of(&[segment(32, 1, 0)]), 5),
@@ -325,7 +328,7 @@ fn codes_of_a_block_past_their_tables() {
 
 #[test]
 fn codes_of_slots_that_are_not_there() {
-    let changes: [fn(&mut State); 5] = [
+    let changes: [Change; 5] = [
         |state| state.fgaincod[1] = 8,
         |state| state.fsnroffst[6] = 16,
         |state| state.delta[6] = Delta::of(&[segment(32, 1, 0)]),

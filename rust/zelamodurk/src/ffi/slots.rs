@@ -74,8 +74,8 @@ extern "C" {
     fn zela_allocate_block(
         state: *const [u8; STATE],
         fscod: u8,
-        present: *const u8,
-        high: *const u8,
+        present: *const bool,
+        high: *const bool,
         exponents: *const u8,
         ranges: *const usize,
         hearing: *const u16,

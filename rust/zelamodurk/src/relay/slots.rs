@@ -155,8 +155,8 @@ pub fn allocate_block(
     let lent = &mut [
         Array(&state.bytes()),
         Number(fscod.into()),
-        Array(&plain.present),
-        Array(&plain.high),
+        Array(&plain.present.map(u8::from)),
+        Array(&plain.high.map(u8::from)),
         Array(plain.exponents.as_flattened()),
         Array(&ranges),
         Halves(tables.hearing),
