@@ -156,8 +156,7 @@ fn read_on(call: &Call) -> Result<Answer, String> {
         return Ok(rule::reading::in_room(call, of_the_rust(call)?));
     };
     let mut answer = rule::reading::in_room(&near, of_the_rust(&near)?);
-    let moved = answer.place != near.place();
-    if moved {
+    if answer.place != near.place() {
         return Err("the Rust moved a cursor past its limit".to_string());
     }
     answer.place = call.place();

@@ -34,5 +34,5 @@ pub fn aht(
     start: Bin,
     end: Bin,
 ) -> Result<usize, Refusal> {
-    core::aht(frame, place, hebap, (start, end))
+    core::aht(frame, place, hebap, start, end)
 }

@@ -208,7 +208,7 @@ pub fn allocate_block(
     tables: &Tables,
     pointers: &mut Block,
 ) -> Result<(), Refusal> {
-    core::allocate_block((state, fscod), slots, tables, pointers)
+    core::allocate_block(state, fscod, slots, tables, pointers)
 }
 
 #[cfg(test)]

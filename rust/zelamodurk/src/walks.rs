@@ -49,5 +49,5 @@ pub fn conventional(
     end: Bin,
     groups: &mut Groups,
 ) -> Result<(), Refusal> {
-    core::conventional(frame, place, bap, (start, end), groups)
+    core::conventional(frame, place, bap, start, end, groups)
 }

@@ -195,48 +195,61 @@ const EXTREMES: [usize; 9] = [
 
 #[test]
 fn no_number_makes_a_call_panic() {
-    let (frame, codes) = ([0xFF; 9], [255; BINS]);
     for a in EXTREMES {
         for b in EXTREMES {
             for c in EXTREMES {
-                let mut place = Place {
-                    pos: a,
-                    limit: b.min(72 * (c & 1) + c),
-                    block: i8::MIN,
-                    count: c,
-                };
-                let byte = a as u8;
-                let ask = Ask {
-                    slot: byte % 9,
-                    strategy: c as u8 % 5,
-                    start: Bin(b),
-                    end: Bin(a),
-                };
-                let (mut log, mut set) = ([0; 24], STALE);
-                let _ = exponents::read_exponents(&frame, &mut log, &mut place, &ask, &mut set);
-                let mut groups = Groups {
-                    g1: byte,
-                    ..Groups::default()
-                };
-                let (start, end) = (Bin(c), Bin(b));
-                let _ = walks::conventional(&frame, &mut place, &codes, start, end, &mut groups);
-                let _ = aht::aht(&frame, &mut place, &codes, start, end);
-                let mut state = State {
-                    delta: [Delta::of(&[LOUD; 8]); SLOTS],
-                    ..State::default()
-                };
-                let _ = blocks::delta_code(&mut state, c, b as u32, byte == 0);
-                let _ = blocks::read_delta(&frame, &mut log, &mut place, &mut state, c);
-                set.end = end;
-                let slots = [Some(Slot {
-                    exponents: &set,
-                    start,
-                    end: Bin(a),
-                    pointers: Pointers::Hebap,
-                }); SLOTS];
-                let mut pointers = [[0; BINS]; SLOTS];
-                let _ = blocks::allocate_block(&sent(), byte % 4, &slots, &TABLES, &mut pointers);
+                read_and_walk(a, b, c);
+                take_sides(a, b, c);
             }
         }
     }
+}
+
+const FRAME: [u8; 9] = [0xFF; 9];
+
+/// Calls at places that are sound and at others.
+fn read_and_walk(a: usize, b: usize, c: usize) {
+    for limit in [8 * FRAME.len(), b] {
+        let place = Place {
+            pos: a,
+            limit,
+            block: i8::MIN,
+            count: c,
+        };
+        let ask = Ask {
+            slot: a as u8,
+            strategy: c as u8,
+            start: Bin(b),
+            end: Bin(a),
+        };
+        let (mut log, mut set, mut state) = ([0; 24], STALE, State::default());
+        let _ = exponents::read_exponents(&FRAME, &mut log, &mut place.clone(), &ask, &mut set);
+        let _ = blocks::read_delta(&FRAME, &mut log, &mut place.clone(), &mut state, c);
+        let mut groups = Groups {
+            g1: a as u8,
+            ..Groups::default()
+        };
+        let (codes, start, end) = ([19; BINS], Bin(c), Bin(b));
+        let _ = walks::conventional(&FRAME, &mut place.clone(), &codes, start, end, &mut groups);
+        let _ = aht::aht(&FRAME, &mut place.clone(), &codes, start, end);
+    }
+}
+
+/// Calls of side information and blocks.
+fn take_sides(a: usize, b: usize, c: usize) {
+    let mut state = sent();
+    let _ = blocks::delta_code(&mut state, c, b as u32, a == 0);
+    state.delta[c % SLOTS].count = a as u8;
+    let set = ExpSet {
+        end: Bin(c),
+        ..STALE
+    };
+    let slots = [Some(Slot {
+        exponents: &set,
+        start: Bin(b),
+        end: Bin(a),
+        pointers: Pointers::Hebap,
+    }); SLOTS];
+    let mut pointers = [[0; BINS]; SLOTS];
+    let _ = blocks::allocate_block(&state, c as u8, &slots, &TABLES, &mut pointers);
 }

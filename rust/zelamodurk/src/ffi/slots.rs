@@ -125,7 +125,8 @@ pub fn conventional(
     frame: &[u8],
     place: &mut Place,
     bap: &[u8; BINS],
-    (start, end): (Bin, Bin),
+    start: Bin,
+    end: Bin,
     groups: &mut Groups,
 ) -> Result<(), Refusal> {
     let mut bit = 0;
@@ -153,7 +154,8 @@ pub fn aht(
     frame: &[u8],
     place: &mut Place,
     hebap: &[u8; BINS],
-    (start, end): (Bin, Bin),
+    start: Bin,
+    end: Bin,
 ) -> Result<usize, Refusal> {
     let (mut tags, mut bit) = (0, 0);
     // SAFETY: as the module says.
@@ -213,7 +215,8 @@ pub fn read_delta(
 
 #[inline]
 pub fn allocate_block(
-    (state, fscod): (&State, u8),
+    state: &State,
+    fscod: u8,
     slots: &Slots,
     tables: &Tables,
     pointers: &mut Block,

@@ -46,7 +46,8 @@ pub fn conventional(
     frame: &[u8],
     place: &mut Place,
     bap: &[u8; BINS],
-    (start, end): (Bin, Bin),
+    start: Bin,
+    end: Bin,
     groups: &mut Groups,
 ) -> Result<(), Refusal> {
     let (mut pos, mut bit) = (place.pos.to_le_bytes(), [0; 8]);
@@ -73,7 +74,8 @@ pub fn aht(
     frame: &[u8],
     place: &mut Place,
     hebap: &[u8; BINS],
-    (start, end): (Bin, Bin),
+    start: Bin,
+    end: Bin,
 ) -> Result<usize, Refusal> {
     let mut pos = place.pos.to_le_bytes();
     let (mut tags, mut bit) = ([0; 8], [0; 8]);
@@ -138,7 +140,8 @@ pub fn read_delta(
 }
 
 pub fn allocate_block(
-    (state, fscod): (&State, u8),
+    state: &State,
+    fscod: u8,
     slots: &Slots,
     tables: &Tables,
     pointers: &mut Block,
