@@ -54,25 +54,15 @@ fn main() {
     }
 }
 
-/// Bits that are written one after another.
-#[derive(Default)]
-struct Bits(Vec<bool>);
-
-impl Bits {
-    /// The low bits of a value, the highest of them first.
-    fn put(&mut self, value: u32, width: usize) {
-        self.0
-            .extend((0..width).rev().map(|bit| value >> bit & 1 == 1));
+/// Bytes of these values and widths, one after another.
+fn written(values: impl IntoIterator<Item = (u32, usize)>) -> Vec<u8> {
+    let (mut bytes, mut pos) = (vec![0; BYTES], 0);
+    for (value, width) in values {
+        let _ = bits::set(&mut bytes, pos, width, value);
+        pos += width;
     }
-
-    /// The bytes; the last is filled with zeros.
-    fn bytes(&self) -> Vec<u8> {
-        let mut bytes = vec![0; self.0.len().div_ceil(8)];
-        for (at, _) in self.0.iter().enumerate().filter(|(_, bit)| **bit) {
-            bytes[at / 8] |= 0x80 >> (at % 8);
-        }
-        bytes
-    }
+    bytes.truncate(pos.div_ceil(8));
+    bytes
 }
 
 /// A call's position, width and value.

@@ -74,13 +74,6 @@ mod called {
             sets: &[zelamodurk::exponents::ExpSet; SLOTS],
             range: impl Fn(usize) -> (usize, usize),
         ) -> Self {
-            let bai = [
-                state.sdcycod,
-                state.fdcycod,
-                state.sgaincod,
-                state.dbpbcod,
-                state.floorcod,
-            ];
             let set = |set: &zelamodurk::exponents::ExpSet| ExpSet {
                 exp: set.exp.map(i16::from).to_vec(),
                 start: set.start.0,
@@ -88,7 +81,7 @@ mod called {
             };
             Block {
                 state: AllocState {
-                    bai: Some(bai),
+                    bai: Some(state.bai()),
                     csnroffst: Some(state.csnroffst),
                     fsnroffst: state.fsnroffst,
                     fgaincod: state.fgaincod,

@@ -10,8 +10,8 @@ use crate::syntax::Place;
 
 /// How many slots a block has.
 pub const SLOTS: usize = 7;
-/// The bytes of a state: the header's `struct zela_state`.
-pub(crate) const STATE: usize = 200;
+/// How many bytes a state has: the header's `struct zela_state`.
+pub const STATE: usize = 200;
 /// Where the fine offsets, the fast gains, the leak and the segments begin in it.
 const FINE: usize = 8;
 const GAIN: usize = FINE + SLOTS;
@@ -55,19 +55,23 @@ pub struct State {
 }
 
 impl State {
-    /// The state as bytes, in the order of the fields.
-    pub(crate) fn bytes(&self) -> [u8; STATE] {
-        let mut bytes = [0; STATE];
-        bytes[..FINE].copy_from_slice(&[
-            self.bai_sent.into(),
+    /// The five parameters.
+    pub const fn bai(&self) -> [u8; 5] {
+        [
             self.sdcycod,
             self.fdcycod,
             self.sgaincod,
             self.dbpbcod,
             self.floorcod,
-            self.csnroffst_sent.into(),
-            self.csnroffst,
-        ]);
+        ]
+    }
+
+    /// The state as bytes, in the order of the fields.
+    pub fn bytes(&self) -> [u8; STATE] {
+        let mut bytes = [0; STATE];
+        bytes[0] = self.bai_sent.into();
+        bytes[1..6].copy_from_slice(&self.bai());
+        bytes[6..FINE].copy_from_slice(&[self.csnroffst_sent.into(), self.csnroffst]);
         bytes[FINE..GAIN].copy_from_slice(&self.fsnroffst);
         bytes[GAIN..LEAK].copy_from_slice(&self.fgaincod);
         bytes[LEAK..DELTAS].copy_from_slice(&[
@@ -84,8 +88,8 @@ impl State {
         bytes
     }
 
-    /// The state of its bytes.
-    pub(crate) fn of_bytes(bytes: &[u8; STATE]) -> State {
+    /// The state of its bytes. What is not 0 counts as sent.
+    pub fn of_bytes(bytes: &[u8; STATE]) -> State {
         let mut state = State {
             bai_sent: bytes[0] != 0,
             sdcycod: bytes[1],

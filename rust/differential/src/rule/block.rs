@@ -37,16 +37,9 @@ pub fn number(given: &Block) -> u8 {
 /// "Codes not yet sent aren't tested, all others are, present slot or not."
 fn is_past(state: &State, fscod: u8) -> bool {
     let [.., gain, coarse, fine, rate] = LARGEST;
-    let bai = [
-        state.sdcycod,
-        state.fdcycod,
-        state.sgaincod,
-        state.dbpbcod,
-        state.floorcod,
-    ];
     let above = |codes: &[u8], most: u8| codes.iter().any(|code| *code > most);
     let leak = above(&[state.cplfleak, state.cplsleak], LARGEST_LEAK);
-    (state.bai_sent && channel::above(&bai, &LARGEST))
+    (state.bai_sent && channel::above(&state.bai(), &LARGEST))
         || (state.csnroffst_sent && state.csnroffst > coarse)
         || (state.cplleak_sent && leak)
         || above(&state.fgaincod, gain)

@@ -126,15 +126,8 @@ fn with_state(mut asked: Asked, before: &State, rusts: &AllocState, slot: Option
 
 /// The Rust's form of a state.
 pub fn alloc_state(state: &State) -> AllocState {
-    let bai = [
-        state.sdcycod,
-        state.fdcycod,
-        state.sgaincod,
-        state.dbpbcod,
-        state.floorcod,
-    ];
     AllocState {
-        bai: state.bai_sent.then_some(bai),
+        bai: state.bai_sent.then(|| state.bai()),
         csnroffst: state.csnroffst_sent.then_some(state.csnroffst),
         fsnroffst: state.fsnroffst,
         fgaincod: state.fgaincod,

@@ -2,8 +2,7 @@
 
 use super::{over, standing, Side};
 use crate::call::{Block, Call, Standing, Walk};
-use zelamodurk::alloc::{Delta, Pointers};
-use zelamodurk::blocks::State;
+use zelamodurk::alloc::Pointers;
 
 /// What such a call is lent and asked: of a walk the codes are the second bytes, of a block the exponents
 /// are the first.
@@ -31,11 +30,11 @@ pub fn lent(call: &Call) -> Side {
             code,
             block0,
         } => Side {
-            second: bytes(state),
+            second: state.bytes().to_vec(),
             ..over(&[], [*slot, *code as usize, usize::from(*block0)])
         },
         Call::ReadDelta { from, state, slot } => Side {
-            second: bytes(state),
+            second: state.bytes().to_vec(),
             ..standing(from, [*slot as u64])
         },
         Call::AllocateBlock(given) => block(given),
@@ -51,38 +50,10 @@ fn walked(walk: &Walk) -> Side {
     }
 }
 
-/// A state's bytes, in the header's order.
-fn bytes(state: &State) -> Vec<u8> {
-    let mut bytes = vec![
-        state.bai_sent.into(),
-        state.sdcycod,
-        state.fdcycod,
-        state.sgaincod,
-        state.dbpbcod,
-        state.floorcod,
-        state.csnroffst_sent.into(),
-        state.csnroffst,
-    ];
-    bytes.extend(state.fsnroffst);
-    bytes.extend(state.fgaincod);
-    bytes.extend([state.cplleak_sent.into(), state.cplfleak, state.cplsleak]);
-    for Delta {
-        count,
-        offset,
-        len,
-        ba,
-    } in state.delta
-    {
-        bytes.push(count);
-        bytes.extend([offset, len, ba].as_flattened());
-    }
-    bytes
-}
-
 /// fscod, and of each slot whether it is there and has hebap, the range of its exponents, and its range.
 fn block(given: &Block) -> Side {
     let mut side = Side {
-        second: bytes(&given.state),
+        second: given.state.bytes().to_vec(),
         ..over(&[], [usize::from(given.fscod)])
     };
     for slot in &given.slots {
