@@ -1,13 +1,13 @@
 -- The ends of a read, a span, a closing and the sticky reader: what each comes to once its tests are known.
 -- Assumes nothing.
-use Prim.Native.Nat.{ℕ, _+_, _-_, _≤_}
+use Prim.Native.Nat.{ℕ, _+_, _-_, _≤_, _<_}
 use mathlib.Core.Path.{_≡_, refl, sym, ap, _∙_}
 use mathlib.Core.List.{List}
 use mathlib.Core.Bool.{Bool, true, false, cond}
 use lib.ListN.{length}
 use lib.Dec.{ltb}
-use borrow.Author.Tests.{le-ltb}
-use Rattle.refusal.specs.Refusals.{Grounds, Outcome, taken, refused, andThen, Ran, settle, follow}
+use borrow.Author.Tests.{le-ltb, lt-ltb}
+use Rattle.refusal.specs.Refusals.{Grounds, grounds, Outcome, taken, refused, andThen, Ran, settle, follow}
 use Rattle.refusal.proofs.Laws.{never, settle-stays, settle-moves, run-stops}
 use Rattle.bits.specs.Bits.{bitsAt}
 use Rattle.bits.specs.Answers.{gotOf}
@@ -57,9 +57,11 @@ module _ (frame : List ℕ) (st : Standing) (a : Ask) (narrow : a .width ≤ 32)
   unfolding readOf
   read-stops f = sym (then-refused _ _ (ltb 32 (a .width)) _ (fits (length frame) (length (st .log)) (st .place) (a .width)) _ (le-ltb 32 (a .width) narrow) f)
 
-  pub read-stays : (q : Reading) {g : Grounds} → q .place ≡ st .place → gotOf (q .answer) ≡ refused g
-      → fits (length frame) (length (st .log)) (st .place) (a .width) ≡ refused g → readingOf q (st .log) ≡ readOf frame st a
-  read-stays q e f h = reading-is q (st .log) e f ∙ read-stops h
+-- a wider one is refused
+pub read-wide : (frame : List ℕ) (st : Standing) (a : Ask) → 32 < a .width
+    → _≡_ {A = Ran Standing ℕ} (record { outcome = refused (grounds 6 (st .place .pos)); state = st }) (readOf frame st a)
+unfolding readOf
+read-wide frame st a h = simp (lt-ltb 32 (a .width) h)
 
 -- the two ends of a span
 module _ (len : ℕ) (st : Standing) (name : ℕ) (role : Role) (width : ℕ) where

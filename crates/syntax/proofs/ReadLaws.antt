@@ -19,7 +19,7 @@ use Rattle.syntax.specs.declared.Role.{Role}
 use Rattle.syntax.specs.declared.Place.{Place}
 use Rattle.syntax.specs.declared.Ask.{Ask}
 use Rattle.syntax.specs.Elements.{written}
-use Rattle.syntax.specs.Reads.{Standing, room, unsound, fits, elementOf, logged, readOf, ahead, rawOf, spanAsk, spanOf, closes, closeOf, nextOf}
+use Rattle.syntax.specs.Reads.{Standing, standing, room, unsound, fits, elementOf, logged, readOf, ahead, rawOf, spanAsk, spanOf, closes, closeOf, nextOf}
 use Rattle.syntax.proofs.Bools.{or-false}
 use Rattle.syntax.proofs.Log.{length-written, written-before, written-after}
 use Rattle.syntax.proofs.Tests.{sound-limit, limit-sound, Free, room-words, fits-free, free-fits, closes-free, free-closes, Told, told-first, fits-told, closes-told}
@@ -116,6 +116,18 @@ module _ (frame : List ℕ) (st : Standing) (a : Ask) where
       by : (o : Outcome Unit) → o ≡ tests → andThen o (λ _. taken bits) ≡ refused g → Told (6 ∷ 1 ∷ 19 ∷ []) (st .place .pos) g
       by (taken u) p q = never (sym q)
       by (refused h) p q = fits-told (length frame) (length (st .log)) (st .place) (a .width) (sym p ∙ cc)
+
+  -- a read by its parts: its answer, the log after it, and the place that follows from the answer
+  pub read-passed : (v : ℕ) → readOf frame st a .outcome ≡ taken v → (p : Place) (l : List ℕ)
+      → p ≡ record { pos = st .place .pos + a .width; limit = st .place .limit; block = st .place .block; count = st .place .count + 1 }
+      → l ≡ readOf frame st a .state .log → _≡_ {A = Ran Standing ℕ} (record { outcome = taken v; state = standing p l }) (readOf frame st a)
+  read-passed v o p l e f =
+      let q = e ∙ ap (λ (s : Standing). s .place) (sym (read-taken v o .after)) in λ i. record { outcome = sym o i; state = standing (q i) (f i) }
+
+  pub read-left : {g : Grounds} → readOf frame st a .outcome ≡ refused g → (l : List ℕ) → l ≡ readOf frame st a .state .log
+      → _≡_ {A = Ran Standing ℕ} (record { outcome = refused g; state = standing (st .place) l }) (readOf frame st a)
+  read-left {g} o l f =
+      let q = ap (λ (s : Standing). s .place) (sym (read-refused g o .0)) in λ i. record { outcome = sym o i; state = standing (q i) (f i) }
 
   -- a narrow one with room to the limit and in the log is taken
   pub read-inside : a .width ≤ 32 → Free (length frame) (length (st .log)) (st .place) (st .place .pos) (st .place .pos + a .width)

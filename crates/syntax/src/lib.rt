@@ -449,13 +449,31 @@ fn fetched(frame: &[u8], pos: usize, width: usize) -> u32
     }
 }
 
-// Logs the element that is asked for from start on, and puts the cursor to its end.
-fn log_element(log: &mut [u32], place: Place, ask: Ask, start: usize, value: u32) -> Place
-    requires { ⌜ (start + ask .width ≤ 32768) × ((place .count < 4096) × (8 * place .count + 8 ≤ length (now log))) ⌝ }
-    ensures { λ r. ⌜ standing r (now (log .exit)) ≡ logged (standing place (now (log .entry))) (elementOf place start ask value) (start + ask .width) ⌝ }
+// The place at another bit, with another count. It is written out, since a copy of the struct would drag its padding through memory.
+fn place_at(place: Place, pos: usize, count: usize) -> Place
+    ensures { λ r. ⌜ r ≡ record { pos = pos; limit = place .limit; block = place .block; count = count } ⌝ }
 {
-    let width = ask.width;
-    let count = place.count;
+    Place {
+        pos,
+        limit: place.limit,
+        block: place.block,
+        count,
+    }
+}
+
+// The place after an element that was read and logged.
+fn passed(place: Place, ask: Ask) -> Place
+    requires { ⌜ (place .pos + ask .width ≤ 32768) × (place .count < 4096) ⌝ }
+    ensures { λ r. ⌜ r ≡ record { pos = place .pos + ask .width; limit = place .limit; block = place .block; count = place .count + 1 } ⌝ }
+{
+    place_at(place, place.pos + ask.width, place.count + 1)
+}
+
+// Logs the element that is asked for, from start on.
+fn log_element(log: &mut [u32], place: Place, ask: Ask, start: usize, value: u32)
+    requires { ⌜ (start + ask .width ≤ 32768) × ((place .count < 4096) × (8 * place .count + 8 ≤ length (now log))) ⌝ }
+    ensures { λ _. ⌜ now (log .exit) ≡ written (now (log .entry)) (place .count) (elementOf place start ask value) ⌝ }
+{
     let role = ask.role;
     let e = Element {
         name: ask.name,
@@ -463,43 +481,53 @@ fn log_element(log: &mut [u32], place: Place, ask: Ask, start: usize, value: u32
         block: place.block,
         index: ask.index,
         pos: start as u32,
-        width: width as u32,
+        width: ask.width as u32,
         value,
     };
-    put_element(log, count, e);
-    let mut next = place;
-    next.pos = start + width;
-    next.count = count + 1;
-    next
+    put_element(log, place.count, e);
 }
 
 // A read that is refused stays where it is.
 fn stay(place: Place, r: Refusal) -> Reading
     ensures { λ q. ⌜ (q .place ≡ place) × (gotOf (q .answer) ≡ told r) ⌝ }
 {
-    let answer = Got::Refused(r);
-    Reading { answer, place }
+    Reading {
+        answer: Got::Refused(r),
+        place: place_at(place, place.pos, place.count),
+    }
+}
+
+// The value of the element at the cursor, once it is logged: 6, then 1, then 19. The place after it is the caller's to make, so that
+// a caller's loop holds its numbers and this one's answer is short.
+fn take_in(frame: &[u8], log: &mut [u32], place: Place, ask: Ask) -> Got
+    ensures { λ r. ⌜ (gotOf r ≡ readOf (now (frame .entry)) (standing place (now (log .entry))) ask .outcome) × (now (log .exit) ≡ readOf (now (frame .entry)) (standing place (now (log .entry))) ask .state .log) ⌝ }
+{
+    let pos = place.pos;
+    let width = ask.width;
+    if 32 < width {
+        return Got::Refused(unfit(pos));
+    }
+    match fit(frame.len(), log.len(), place, width) {
+        Put::Done => {
+            let value = fetched(frame, pos, width);
+            log_element(log, place, ask, pos, value);
+            Got::Value(value)
+        }
+        Put::Refused(r) => Got::Refused(r),
+    }
 }
 
 // Reads one element and logs it: 6, then 1, then 19. A refused read changes neither place nor log.
 pub fn read_element(frame: &[u8], log: &mut [u32], place: Place, ask: Ask) -> Reading
     ensures { λ r. ⌜ readingOf r (now (log .exit)) ≡ readOf (now (frame .entry)) (standing place (now (log .entry))) ask ⌝ }
 {
-    let pos = place.pos;
-    let width = ask.width;
-    if 32 < width {
-        return stay(place, unfit(pos));
-    }
-    match fit(frame.len(), log.len(), place, width) {
-        Put::Done => {
-            let value = fetched(frame, pos, width);
-            let next = log_element(log, place, ask, pos, value);
-            Reading {
-                answer: Got::Value(value),
-                place: next,
-            }
-        }
-        Put::Refused(r) => stay(place, r),
+    let got = take_in(frame, log, place, ask);
+    match got {
+        Got::Value(value) => Reading {
+            answer: Got::Value(value),
+            place: passed(place, ask),
+        },
+        Got::Refused(r) => stay(place, r),
     }
 }
 
@@ -518,11 +546,9 @@ pub fn read_raw(frame: &[u8], place: Place, width: usize) -> Reading
         return stay(place, past_limit(place));
     }
     let value = fetched(frame, pos, width);
-    let mut next = place;
-    next.pos = pos + width;
     Reading {
         answer: Got::Value(value),
-        place: next,
+        place: place_at(place, pos + width, place.count),
     }
 }
 
@@ -546,10 +572,10 @@ pub fn span(
                 index: -1,
                 width,
             };
-            let next = log_element(log, place, ask, pos, 0);
+            log_element(log, place, ask, pos, 0);
             Moved {
                 answer: Put::Done,
-                place: next,
+                place: passed(place, ask),
             }
         }
         Put::Refused(r) => Moved {
@@ -580,10 +606,10 @@ pub fn close_span(
                 index: -1,
                 width,
             };
-            let next = log_element(log, place, ask, start, 0);
+            log_element(log, place, ask, start, 0);
             Moved {
                 answer: Put::Done,
-                place: next,
+                place: place_at(place, pos, place.count + 1),
             }
         }
         Put::Refused(r) => Moved {
@@ -604,23 +630,14 @@ pub fn begin(place: Place) -> Reader
     }
 }
 
-// The reader that a read leaves.
-fn reader_of(read: Reading) -> Reader
-    ensures { λ r. ⌜ (r .place ≡ read .place) × ((seenOf (r .answer) (r .value) ≡ gotOf (read .answer)) × (r .value ≡ shown (gotOf (read .answer)))) ⌝ }
+// A reader that is refused.
+fn refused_reader(place: Place, r: Refusal) -> Reader
+    ensures { λ q. ⌜ (q .place ≡ place) × ((seenOf (q .answer) (q .value) ≡ told r) × (q .value ≡ 0)) ⌝ }
 {
-    let place = read.place;
-    let got = read.answer;
-    match got {
-        Got::Value(value) => Reader {
-            answer: Put::Done,
-            place,
-            value,
-        },
-        Got::Refused(r) => Reader {
-            answer: Put::Refused(r),
-            place,
-            value: 0,
-        },
+    Reader {
+        answer: Put::Refused(r),
+        place: place_at(place, place.pos, place.count),
+        value: 0,
     }
 }
 
@@ -630,16 +647,17 @@ pub fn next(frame: &[u8], log: &mut [u32], reader: Reader, ask: Ask) -> Reader
 {
     let place = reader.place;
     let answer = reader.answer;
-    match answer {
-        Put::Done => {
-            let read = read_element(frame, log, place, ask);
-            reader_of(read)
-        }
-        Put::Refused(r) => Reader {
-            answer: Put::Refused(r),
-            place,
-            value: 0,
+    if let Put::Refused(r) = answer {
+        return refused_reader(place, r);
+    }
+    let got = take_in(frame, log, place, ask);
+    match got {
+        Got::Value(value) => Reader {
+            answer: Put::Done,
+            place: passed(place, ask),
+            value,
         },
+        Got::Refused(r) => refused_reader(place, r),
     }
 }
 

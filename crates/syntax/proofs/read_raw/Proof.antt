@@ -1,12 +1,12 @@
 -- `syntax::read_raw` meets its contract: each test picks its case of the definition.
 -- Assumes nothing.
 use mathlib.Core.Path.{_∙_, sym, ap}
-use Prim.Native.Nat.{ℕ, _+_}
+use Prim.Native.Nat.{_+_}
 use lib.ListN.{length}
 use denote.Ref.{now}
 use borrow.Author.Tests.{lt-ltb, le-ltb, ltb-false}
 use Rattle.refusal.specs.Refusals.{taken, refused}
-use Rattle.syntax.specs.Reads.{ahead, rawOf}
+use Rattle.syntax.specs.Reads.{rawOf}
 use Rattle.syntax.proofs.Tests.{sound-limit}
 use Rattle.syntax.proofs.Ends.{raw-is}
 use borrow.Author.Needs.{needs}
@@ -46,8 +46,8 @@ fetched-requires c κs =
     let l = ltb-false (a .place .limit) (a .place .pos + a .width) (sym (c .before .passes .ensures) ∙ c .if3 .left) in
     omega arith
 
-add-next : tie.Need-add-next
-add-next c =
+add-place-at : tie.Need-add-place-at
+add-place-at c =
     let a = c .before .before .before .before .before .before .before .args in
     let s = sound-limit (length (now (a .frame))) (a .place) (sym (c .before .before .before .before .before .is-unsound .ensures) ∙ c .before .before .before .before .if1 .left) in
     let l = ltb-false (a .place .limit) (a .place .pos + a .width) (sym (c .before .before .passes .ensures) ∙ c .before .if3 .left) in
@@ -57,11 +57,11 @@ returns-4 : tie.Need-returns-4
 unfolding rawOf
 returns-4 c =
     simp (
-      sym (c .before .before .before .before .before .is-unsound .ensures) ∙ c .before .before .before .before .if1 .left,
-      le-ltb _ _ (c .before .before .before .if2 .left),
-      sym (c .before .before .passes .ensures) ∙ c .before .if3 .left,
+      sym (c .before .before .before .before .before .before .is-unsound .ensures) ∙ c .before .before .before .before .before .if1 .left,
+      le-ltb _ _ (c .before .before .before .before .if2 .left),
+      sym (c .before .before .before .passes .ensures) ∙ c .before .before .if3 .left,
     )
-    (ap (λ (v : ℕ). record { outcome = taken v; state = ahead (c .before .before .before .before .before .before .before .args .place) (c .before .before .before .before .before .before .before .args .width) }) (c .fetched .ensures))
+    (λ i. record { outcome = taken (c .before .fetched .ensures i); state = c .place-at .ensures i })
 
 pub read-raw-spec : {M : Type 1} → statement M
 read-raw-spec =
@@ -79,5 +79,6 @@ read-raw-spec =
     (λ c κs. search needs)
     returns-3
     fetched-requires
-    add-next
+    add-place-at
+    (λ c κs. search needs)
     returns-4)
