@@ -1,7 +1,7 @@
 -- Laws of the AHT walk: the ends of each step, how many tags a step can add, one turn of each loop, and what gaqmod's value can be.
 -- Assumes nothing.
 use Prim.Native.Nat.{ℕ, zero, suc, _+_, _-_, _*_, _/_, _%_, _^_, _≤_, _<_}
-use mathlib.Core.Path.{_≡_, refl, sym, _∙_, ap}
+use mathlib.Core.Path.{_≡_, refl, sym, _∙_, ap, subst}
 use mathlib.Core.Bool.{Bool, true, false, cond}
 use mathlib.Core.List.{List}
 use native.Mathlib.Omega.{arith}
@@ -12,18 +12,54 @@ use lib.Pow.{shl-exact}
 use lib.ListN.{length, getD}
 use lib.Seq.{slice, slice-cons, slice-empty}
 use borrow.Author.Tests.{lt-ltb, le-ltb, eq-eqb, ne-eqb}
-use Rattle.refusal.specs.Refusals.{Grounds, grounds, Outcome, taken, refused, andThen, Ran, follow}
+use Rattle.refusal.specs.declared.Why.{Why}
+use Rattle.refusal.specs.Refusals.{Grounds, grounds, numberOf, Outcome, taken, refused, andThen, Ran, follow}
 use Rattle.refusal.proofs.Laws.{never, run-on, run-stays}
 use Rattle.bits.specs.Bits.{bitsAt}
 use Rattle.syntax.specs.declared.Place.{Place}
 use Rattle.syntax.specs.Reads.{unsound, rawOf}
 use Rattle.syntax.proofs.Bools.{or-false}
-use Rattle.syntax.proofs.ReadLaws.{raw-taken}
+use Rattle.syntax.proofs.Tests.{sound-limit}
+use Rattle.syntax.proofs.ReadLaws.{raw-taken, raw-inside}
 use Rattle.tables.proofs.BandLaws.{below-at}
 use Rattle.walks.proofs.Laws.{range-says}
-use Rattle.aht.specs.Aht.{tallied, Walk, readOn, refuseOn, tagOn, reads, times, gaqWidths, gaqWidth, gainedOn, mantissaOn, isActive, digit, meant, gainOf, gainAt, vectorWidth, binOn, countActive, walkOn, sections, wordWidth, gainBits, compositeOn, wordOn, binsOn, modeOn, told, unfitAht, begun, ahtOf}
+use Rattle.aht.specs.declared.Course.{Course}
+use Rattle.aht.specs.declared.Course.the-variants as course
+use Rattle.aht.specs.declared.Tally.{Tally}
+use Rattle.aht.specs.Aht.{tallied, Walk, placeAt, courseOf, lastOf, tallyOf, heldOf, Held, small, large, readOn, refuseOn, tagOn, reads, times, gaqWidths, gaqWidth, gainedOn, mantissaOn, isActive, digit, meant, gainOf, gainAt, vectorWidths, vectorWidth, binOn, countActive, walkOn, sections, wordWidth, gainBits, compositeOn, wordOn, binsOn, modeOn, told, unfitAht, begun, ahtOf}
 
--- 1. The ends of the steps, with r the walk so far.
+-- 1. What the code holds: a walk that goes on, and one that has stopped.
+
+module _ (frame : List ℕ) (t : Tally) where
+  abbrev value : ℕ
+  value = bitsAt frame (t .pos - t .last) (t .last)
+
+  pub goes-on : t .course ≡ course.On → lastOf frame t ≡ taken value
+  goes-on e = ap (λ (k : Course). courseOf k (t .pos) value) e
+
+  pub has-stopped : {w : Why} → t .course ≡ course.Stopped w → lastOf frame t ≡ refused (grounds (numberOf w) (t .pos))
+  has-stopped e = ap (λ (k : Course). courseOf k (t .pos) value) e
+
+module _ (most : ℕ) (t : Tally) where
+  pub held-on : t .course ≡ course.On → Held most t → (t .last ≤ 32) × (t .last ≤ t .pos) × (t .pos ≤ most)
+  held-on e h = subst (λ (k : Course). heldOf k (t .pos) (t .last) most) e h
+
+  pub held-stopped : {w : Why} → t .course ≡ course.Stopped w → Held most t
+  held-stopped e = subst (λ (k : Course). heldOf k (t .pos) (t .last) most) (sym e) tt
+
+  pub held-less : (k : ℕ) → k ≤ most → Held k t → Held most t
+  held-less k l = go (t .course)
+    where
+      go : (c : Course) → heldOf c (t .pos) (t .last) k → heldOf c (t .pos) (t .last) most
+      go course.On h = (h .0, h .1, omega (arith, h .2))
+      go (course.Stopped w) h = tt
+
+-- a walk that has read nothing
+pub begun-is : (frame : List ℕ) (p : Place) → tallyOf frame p (record { pos = p .pos; last = 0; tags = 0; course = course.On }) ≡ begun p
+unfolding bitsAt
+begun-is frame p = refl
+
+-- 2. The ends of the steps, with r the walk so far.
 
 module _ (r : Walk) where
   module _ (frame : List ℕ) (n : ℕ) where
@@ -105,6 +141,28 @@ module _ (r : Walk) where
       → _≡_ {A = Ran Place ℕ} (record { outcome = refused g; state = r .state .place }) (told r)
   told-stays e = sym (ap {B = Ran Place ℕ} (λ o. record { outcome = andThen o (λ _. taken (r .state .tags)); state = r .state .place }) e)
 
+-- n bits after a walk that goes on, from a sound place
+module _ (frame : List ℕ) (p : Place) (n : ℕ) (t : Tally) (s : unsound (length frame) p ≡ false) (narrow : n ≤ 32) (e : t .course ≡ course.On) where
+  raw-past : ltb (p .limit) (t .pos + n) ≡ true
+      → _≡_ {A = Ran Place ℕ} (record { outcome = refused (grounds 1 (t .pos)); state = placeAt p (t .pos) }) (rawOf frame (placeAt p (t .pos)) n)
+  unfolding rawOf
+  raw-past h = simp (s, le-ltb 32 n narrow, h)
+
+  pub read-past : ltb (p .limit) (t .pos + n) ≡ true
+      → _≡_ {A = Walk} (record { outcome = refused (grounds 1 (t .pos)); state = tallied (placeAt p (t .pos)) (t .tags) }) (readOn frame n (tallyOf frame p t))
+  read-past h = read-on (tallyOf frame p t) frame n _ (raw-past h) (goes-on frame t e)
+
+  pub read-within : t .pos + n ≤ p .limit
+      → _≡_ {A = Walk} (record { outcome = taken (bitsAt frame (t .pos + n - n) n); state = tallied (placeAt p (t .pos + n)) (t .tags) })
+      (readOn frame n (tallyOf frame p t))
+  read-within h =
+      let l = sound-limit (length frame) p s in
+      let back : t .pos + n - n ≡ t .pos = omega arith in
+      read-on (tallyOf frame p t) frame n _
+      (ap {B = Ran Place ℕ} (λ (x : ℕ). record { outcome = taken (bitsAt frame x n); state = placeAt p (t .pos + n) }) back
+      ∙ sym (raw-inside frame (placeAt p (t .pos)) n (l .0) (l .1) narrow h))
+      (goes-on frame t e)
+
 -- the tag of s bits, as the code makes it
 pub top-is : (k : ℕ) → k ≤ 15 → 1 * 2 ^ k % 2 ^ 32 ≡ 2 ^ k
 top-is k h = shl-exact 1 k 32 (omega arith) (omega arith) ∙ omega arith
@@ -127,13 +185,14 @@ module _ (frame : List ℕ) (r : Walk) where
     mantissa-plain e = rw (eq-eqb gain 1 e)
 
     module _ (z : gain ≡ 1 → ⊥) where
-      pub mantissa-two : gain ≡ 2 → gainedOn frame (m - 1) (m - 1) r ≡ mantissaOn frame m gain r
+      pub mantissa-gained : gainedOn frame (small m gain) (large m gain) r ≡ mantissaOn frame m gain r
       unfolding mantissaOn
-      mantissa-two e = rw (ne-eqb gain 1 z, eq-eqb gain 2 e)
-
-      pub mantissa-four : (gain ≡ 2 → ⊥) → gainedOn frame (m - 2) m r ≡ mantissaOn frame m gain r
-      unfolding mantissaOn
-      mantissa-four e = rw (ne-eqb gain 1 z, ne-eqb gain 2 e)
+      mantissa-gained = rw (ne-eqb gain 1 z) (go (eqb gain 2))
+        where
+          go : (t : Bool)
+              → gainedOn frame (cond t (m - 1) (m - 2)) (cond t (m - 1) m) r ≡ cond t (gainedOn frame (m - 1) (m - 1) r) (gainedOn frame (m - 2) m r)
+          go true = refl
+          go false = refl
 
   -- a composite gain, where q is the walk with its bits read
   module _ (q : Walk) (e : q ≡ readOn frame 5 r) where
@@ -195,6 +254,11 @@ module _ (frame : List ℕ) (mode base k : ℕ) where
       unfolding gainOf
       gain-unset e = rw (ne-eqb mode 0 z, ne-eqb mode 3 t, ne-eqb (bitsAt frame (base + k) 1) 1 e)
 
+-- the bits of a vector's index are a read: one computed test
+pub vector-bound : (h : ℕ) → h < 8 → vectorWidth h ≤ 32
+unfolding vectorWidth
+vector-bound h l = leb→le (getD vectorWidths h 0) 32 (below-at 8 (λ k. leb (getD vectorWidths k 0) 32) tt h l)
+
 -- the widths of hebap 8 to 19 lie in 3 to 16: one computed test
 pub gaq-bounds : (h : ℕ) → h ≤ 19 → (3 ≤ gaqWidth h) × (gaqWidth h ≤ 16)
 unfolding gaqWidth
@@ -203,7 +267,7 @@ gaq-bounds h l = (
   leb→le (getD gaqWidths (h - 8) 0) 16 (below-at 12 (λ k. leb (getD gaqWidths k 0) 16) tt (h - 8) (omega arith)),
 )
 
--- 2. Tags.
+-- 3. Tags.
 
 -- a mantissa meets at most one
 gained-tags : (frame : List ℕ) (s l : ℕ) (r : Walk) → gainedOn frame s l r .state .tags ≤ r .state .tags + 1
@@ -259,7 +323,7 @@ unfolding times
 words-tags frame mode zero r = refl
 words-tags frame mode (suc n) r = word-tags frame mode (times n (wordOn frame mode) r) ∙ words-tags frame mode n r
 
--- 3. One turn of each loop.
+-- 4. One turn of each loop.
 
 pub times-again : (n : ℕ) (step : Walk → Walk) (q r : Walk) → q ≡ times n step r → step q ≡ times (n + 1) step r
 unfolding times
@@ -295,7 +359,7 @@ pub one-more : (t : Bool) → cond t 1 0 ≤ 1
 one-more true = omega arith
 one-more false = omega arith
 
--- 4. The gain words lie inside the frame.
+-- 5. The gain words lie inside the frame.
 
 -- fewer active bins have no more words
 pub inside-less : (mode base i j len : ℕ) → i ≤ j → base + gainBits mode j ≤ len → base + gainBits mode i ≤ len
@@ -392,7 +456,7 @@ words-moved frame mode (suc n) r {v} h e =
       within = m .2 .within;
     }
 
--- 5. gaqmod, and what follows it.
+-- 6. gaqmod, and what follows it.
 
 module _ (frame hs : List ℕ) (r : Walk) where
   pub mode-stays : {g : Grounds} → r .outcome ≡ refused g → r ≡ modeOn frame hs r
@@ -413,11 +477,11 @@ module _ (frame hs : List ℕ) (r : Walk) where
     unfolding binsOn
     words-on h = ap {A = Outcome ℕ} (λ o. walkOn frame mode (r .state .place .pos) 0 hs (record { outcome = o; state = q .state })) h ∙ run-on _ e h
 
--- 6. The whole.
+-- 7. The whole.
 
 module _ (frame : List ℕ) (place : Place) (hebap : List ℕ) (start end : ℕ) where
-  pub aht-says : unfitAht (length frame) place start end ≡ false → (start ≤ end) × (end ≤ 256)
-  aht-says e = range-says start end (or-false (unsound (length frame) place) _ e .1)
+  pub aht-says : unfitAht (length frame) place start end ≡ false → (unsound (length frame) place ≡ false) × (start ≤ end) × (end ≤ 256)
+  aht-says e = let o = or-false (unsound (length frame) place) _ e in let r = range-says start end (o .1) in (o .0, r .0, r .1)
 
   pub aht-unfit : unfitAht (length frame) place start end ≡ true → told (refuseOn 6 (begun place)) ≡ ahtOf frame place hebap start end
   unfolding ahtOf

@@ -2,21 +2,23 @@
 -- gaqmod, the gain words, and the mantissas of all six blocks bin by bin. Each step is made on the walk so far; a walk that is refused
 -- stays where it stands.
 -- Assumes nothing.
-use Prim.Native.Nat.{ℕ, zero, suc, _+_, _-_, _*_, _/_, _%_, _^_}
+use Prim.Native.Nat.{ℕ, zero, suc, _+_, _-_, _*_, _/_, _%_, _^_, _≤_}
 use mathlib.Core.Bool.{Bool, false, cond, _&&_, _||_}
 use mathlib.Core.List.{List, [], _∷_}
 use lib.ListN.{length, getD}
 use lib.Seq.{slice}
 use lib.Dec.{eqb, ltb}
-use Rattle.refusal.specs.Refusals.{Outcome, taken, refused, grounds, told as toldAt, andThen, Ran, thenRun}
+use Rattle.refusal.specs.declared.Why.{Why}
+use Rattle.refusal.specs.Refusals.{numberOf, Outcome, taken, refused, grounds, told as toldAt, andThen, Ran, thenRun}
 use Rattle.bits.specs.Bits.{bitsAt}
-use Rattle.bits.specs.Answers.{gotOf}
 use Rattle.syntax.specs.declared.Place.{Place}
 use Rattle.syntax.specs.Reads.{unsound, rawOf}
 use Rattle.walks.specs.Walk.{unfitRange}
 use Rattle.aht.specs.declared.Counted.{Counted}
 use Rattle.aht.specs.declared.Counted.the-variants as counted
 use Rattle.aht.specs.declared.AhtWalked.{AhtWalked}
+use Rattle.aht.specs.declared.Course.{Course}
+use Rattle.aht.specs.declared.Course.the-variants as course
 use Rattle.aht.specs.declared.Tally.{Tally}
 
 -- where a walk stands: the cursor's place, and the tags that it met
@@ -35,8 +37,31 @@ Walk = Ran Tallied ℕ
 abbrev pub going : ℕ → Tallied → Walk
 going v s = record { outcome = taken v; state = s }
 
-abbrev pub tallyOf : Tally → Walk
-tallyOf t = record { outcome = gotOf (t .answer); state = tallied (t .place) (t .tags) }
+-- a place at another bit
+abbrev pub placeAt : Place → ℕ → Place
+placeAt p bit = record { pos = bit; limit = p .limit; block = p .block; count = p .count }
+
+-- what the code holds of a walk over a frame from place p on: what it read last is the `last` bits before its bit
+abbrev pub courseOf : Course → ℕ → ℕ → Outcome ℕ
+courseOf course.On bit v = taken v
+courseOf (course.Stopped why) bit v = refused (grounds (numberOf why) bit)
+
+abbrev pub lastOf : List ℕ → Tally → Outcome ℕ
+lastOf frame t = courseOf (t .course) (t .pos) (bitsAt frame (t .pos - t .last) (t .last))
+
+abbrev pub tallyOf : List ℕ → Place → Tally → Walk
+tallyOf frame p t = record { outcome = lastOf frame t; state = tallied (placeAt p (t .pos)) (t .tags) }
+
+abbrev pub stoppedOf : Why → Tally → Tally
+stoppedOf why t = record { pos = t .pos; last = t .last; tags = t .tags; course = course.Stopped why }
+
+-- where it goes on, those bits are at most 32, and among the first `most`
+abbrev pub heldOf : Course → ℕ → ℕ → ℕ → Type 0
+heldOf course.On bit last most = (last ≤ 32) × (last ≤ bit) × (bit ≤ most)
+heldOf (course.Stopped why) bit last most = Unit {0}
+
+abbrev pub Held : ℕ → Tally → Type 0
+Held most t = heldOf (t .course) (t .pos) (t .last) most
 
 -- 1. Steps.
 
@@ -89,6 +114,13 @@ gainedOn frame s l r =
     cond (reads (λ v. eqb v (2 ^ (s - 1))) (readOn frame s r))
     (tagOn (readOn frame l (readOn frame s r)))
     (readOn frame s r)
+
+-- the two widths of a mantissa with a gain, for the code
+abbrev pub small : ℕ → ℕ → ℕ
+small m gain = cond (eqb gain 2) (m - 1) (m - 2)
+
+abbrev pub large : ℕ → ℕ → ℕ
+large m gain = cond (eqb gain 2) (m - 1) m
 
 -- a mantissa of width m: "m; G2: m-1, tag adds m-1; G4: m-2, tag adds m"
 unfoldable pub mantissaOn : List ℕ → ℕ → ℕ → Walk → Walk

@@ -6,18 +6,21 @@ use refusal::Refusal;
 use refusal::Why;
 use syntax::Place;
 use syntax::is_unsound;
-use syntax::read_raw;
+use syntax::passes;
 use tables::Bin;
 use walks::is_unfit_range;
 ghost use mathlib.Core.Path.{_≡_};
-ghost use mathlib.Core.Bool.{cond};
-ghost use Prim.Native.Nat.{_+_, _-_, _*_, _^_, _≤_, _<_};
+ghost use mathlib.Core.Bool.{false, cond};
+ghost use mathlib.Core.List.{List};
+ghost use Prim.Native.Nat.{ℕ, _+_, _-_, _*_, _^_, _≤_, _<_};
 ghost use lib.Dec.{eqb, ltb};
 ghost use lib.ListN.{length};
 ghost use lib.Seq.{slice};
 ghost use Rattle.refusal.specs.Refusals.{numberOf};
 ghost use Rattle.bits.specs.Bits.{bitsAt};
-ghost use Rattle.aht.specs.Aht.{tallyOf, tagsMost, reads, readOn, refuseOn, tagOn, gainedOn, mantissaOn, times, vectorWidth, gaqWidth, isActive, countActive, sections, compositeOn, wordOn, gainBits, binsOn, digit, meant, gainOf, gainAt, binOn, walkOn, modeOn, told, countedOf, unfitAht, ahtOf};
+ghost use Rattle.syntax.specs.declared.Place.{Place};
+ghost use Rattle.syntax.specs.Reads.{unsound};
+ghost use Rattle.aht.specs.Aht.{placeAt, stoppedOf, lastOf, tallyOf, Held, tagsMost, passes as passed, small, large, readOn, refuseOn, tagOn, gainedOn, mantissaOn, times, vectorWidth, gaqWidth, isActive, countActive, sections, compositeOn, wordOn, gainBits, binsOn, digit, meant, gainOf, gainAt, binOn, walkOn, modeOn, told, countedOf, unfitAht, ahtOf};
 
 // How an AHT walk ends: the tags of large mantissas that it met, or a refusal.
 pub enum Counted {
@@ -31,90 +34,137 @@ pub struct AhtWalked {
     pub place: Place,
 }
 
-// A walk so far: what it read last or its refusal, its place, and the tags that it met.
-struct Tally {
-    answer: Got,
-    place: Place,
-    tags: usize,
+// Whether a walk goes on.
+enum Course {
+    On,
+    Stopped(Why),
 }
 
-// The next n bits.
-fn read(frame: &[u8], n: u8, t: Tally) -> Tally
-    ensures { λ r. ⌜ tallyOf r ≡ readOn (now (frame .entry)) n (tallyOf t) ⌝ }
+// A walk so far: its bit, how many bits before it were read last, the tags that it met, and whether it goes on. What was read last is
+// looked at only where it counts: of most mantissas nothing but the width is used.
+struct Tally {
+    pos: usize,
+    last: usize,
+    tags: usize,
+    course: Course,
+}
+
+// The place of a walk at a bit.
+fn stands(place: Place, pos: usize) -> Place
+    ensures { λ r. ⌜ r ≡ placeAt place pos ⌝ }
 {
-    let answer = t.answer;
-    if let Got::Refused(_) = answer {
-        return t;
-    }
-    let place = t.place;
-    let r = read_raw(frame, place, n as usize);
-    let got = r.answer;
-    let next = r.place;
-    Tally {
-        answer: got,
-        place: next,
-        tags: t.tags,
+    Place {
+        pos,
+        limit: place.limit,
+        block: place.block,
+        count: place.count,
     }
 }
 
 // The walk ends where it stands.
-fn refuse(why: Why, t: Tally) -> Tally
-    ensures { λ r. ⌜ tallyOf r ≡ refuseOn (numberOf why) (tallyOf t) ⌝ }
+fn stopped(why: Why, t: Tally) -> Tally
+    ensures { λ r. ⌜ r ≡ stoppedOf why t ⌝ }
 {
-    let answer = t.answer;
-    if let Got::Refused(_) = answer {
+    Tally {
+        pos: t.pos,
+        last: t.last,
+        tags: t.tags,
+        course: Course::Stopped(why),
+    }
+}
+
+// The same of a walk that may have ended before.
+fn refuse(why: Why, t: Tally) -> Tally
+    ensures { λ r. ⌜ ((frame : List ℕ) (place : Place) → tallyOf frame place r ≡ refuseOn (numberOf why) (tallyOf frame place t)) ⌝ }
+{
+    let course = t.course;
+    if let Course::Stopped(_) = course {
         return t;
     }
-    let place = t.place;
-    let r = Refusal {
-        why,
-        bit: place.pos,
-    };
+    stopped(why, t)
+}
+
+// The next n bits.
+fn read(place: Place, n: u8, t: Tally) -> Tally
+    requires { ⌜ n ≤ 32 ⌝ }
+    ensures { λ r. ⌜ ((frame : List ℕ) → unsound (length frame) place ≡ false → tallyOf frame place r ≡ readOn frame n (tallyOf frame place t)) × Held (place .limit) r ⌝ }
+{
+    let course = t.course;
+    if let Course::Stopped(_) = course {
+        return t;
+    }
+    let width = n as usize;
+    if passes(stands(place, t.pos), width) {
+        return stopped(Why::PastLimit, t);
+    }
     Tally {
-        answer: Got::Refused(r),
-        place,
+        pos: t.pos + width,
+        last: width,
         tags: t.tags,
+        course: Course::On,
     }
 }
 
 // One tag more.
 fn tag(t: Tally) -> Tally
     requires { ⌜ t .tags < tagsMost ⌝ }
-    ensures { λ r. ⌜ tallyOf r ≡ tagOn (tallyOf t) ⌝ }
+    ensures { λ r. ⌜ ((frame : List ℕ) (place : Place) → tallyOf frame place r ≡ tagOn (tallyOf frame place t)) ⌝ }
 {
-    let answer = t.answer;
-    if let Got::Refused(_) = answer {
+    let course = t.course;
+    if let Course::Stopped(_) = course {
         return t;
     }
-    let place = t.place;
     let tags = t.tags + 1;
     Tally {
-        answer,
-        place,
+        pos: t.pos,
+        last: t.last,
         tags,
+        course: Course::On,
     }
+}
+
+// Bits of a range that lies inside the frame.
+fn peek(frame: &[u8], pos: usize, n: usize) -> u32
+    requires { ⌜ (n ≤ 32) × (pos + n ≤ 8 * length (now frame)) ⌝ }
+    ensures { λ r. ⌜ r ≡ bitsAt (now (frame .entry)) pos n ⌝ }
+{
+    match bits::get(frame, pos, n) {
+        Got::Value(v) => v,
+        // Such a range is never refused.
+        Got::Refused(_) => 0,
+    }
+}
+
+// What was read last.
+fn last_read(frame: &[u8], t: Tally) -> u32
+    requires { ⌜ (t .last ≤ 32) × (t .last ≤ t .pos) × (t .pos ≤ 8 * length (now frame)) ⌝ }
+    ensures { λ r. ⌜ r ≡ bitsAt (now (frame .entry)) (t .pos - t .last) (t .last) ⌝ }
+{
+    peek(frame, t.pos - t.last, t.last)
 }
 
 // Whether v was read last.
-fn is_value(t: Tally, v: u32) -> bool
-    ensures { λ r. ⌜ r ≡ reads (λ x. eqb x v) (tallyOf t) ⌝ }
+fn is_value(frame: &[u8], t: Tally, v: u32) -> bool
+    requires { ⌜ Held (8 * length (now frame)) t ⌝ }
+    ensures { λ r. ⌜ r ≡ passed (λ x. eqb x v) (lastOf (now (frame .entry)) t) ⌝ }
 {
-    let answer = t.answer;
-    match answer {
-        Got::Value(x) => x == v,
-        Got::Refused(_) => false,
+    let course = t.course;
+    if let Course::Stopped(_) = course {
+        return false;
     }
+    last_read(frame, t) == v
 }
 
 // Whether more than v was read last.
-fn is_above(t: Tally, v: u32) -> bool
-    ensures { λ r. ⌜ r ≡ reads (λ x. ltb v x) (tallyOf t) ⌝ }
+fn is_above(frame: &[u8], t: Tally, v: u32) -> bool
+    requires { ⌜ Held (8 * length (now frame)) t ⌝ }
+    ensures { λ r. ⌜ r ≡ passed (λ x. ltb v x) (lastOf (now (frame .entry)) t) ⌝ }
 {
-    let answer = t.answer;
-    match answer {
-        Got::Value(x) => v < x,
-        Got::Refused(_) => false,
+    let course = t.course;
+    if let Course::Stopped(_) = course {
+        return false;
     }
+    v < last_read(frame, t)
 }
 
 // The number of s bits whose top bit is 1 and the rest 0.
@@ -126,40 +176,53 @@ fn top(s: u8) -> u32
 }
 
 // A mantissa of s bits, and where it is the tag, the large one of l bits after it.
-fn gained(frame: &[u8], s: u8, l: u8, t: Tally) -> Tally
-    requires { ⌜ (0 < s) × (s ≤ 16) × (t .tags < tagsMost) ⌝ }
-    ensures { λ r. ⌜ tallyOf r ≡ gainedOn (now (frame .entry)) s l (tallyOf t) ⌝ }
+fn gained(frame: &[u8], place: Place, s: u8, l: u8, t: Tally) -> Tally
+    requires { ⌜ (unsound (length (now frame)) place ≡ false) × (0 < s) × (s ≤ 16) × (l ≤ 16) × (t .tags < tagsMost) ⌝ }
+    ensures { λ r. ⌜ tallyOf (now (frame .entry)) place r ≡ gainedOn (now (frame .entry)) s l (tallyOf (now (frame .entry)) place t) ⌝ }
 {
-    let a = read(frame, s, t);
-    if is_value(a, top(s)) {
-        return tag(read(frame, l, a));
+    let a = read(place, s, t);
+    if is_value(frame, a, top(s)) {
+        return tag(read(place, l, a));
     }
     a
 }
 
+// The bits of a mantissa of width m with a gain of 2 or 4.
+fn small_of(m: u8, gain: u8) -> u8
+    requires { ⌜ (3 ≤ m) × (m ≤ 16) ⌝ }
+    ensures { λ r. ⌜ (r ≡ small m gain) × (0 < r) × (r ≤ 16) ⌝ }
+{
+    if gain == 2 { m - 1 } else { m - 2 }
+}
+
+// The bits of the large one after its tag.
+fn large_of(m: u8, gain: u8) -> u8
+    requires { ⌜ (3 ≤ m) × (m ≤ 16) ⌝ }
+    ensures { λ r. ⌜ (r ≡ large m gain) × (r ≤ 16) ⌝ }
+{
+    if gain == 2 { m - 1 } else { m }
+}
+
 // One mantissa of width m, by its gain.
-fn mantissa(frame: &[u8], m: u8, gain: u8, t: Tally) -> Tally
-    requires { ⌜ (3 ≤ m) × (m ≤ 16) × (t .tags < tagsMost) ⌝ }
-    ensures { λ r. ⌜ tallyOf r ≡ mantissaOn (now (frame .entry)) m gain (tallyOf t) ⌝ }
+fn mantissa(frame: &[u8], place: Place, m: u8, gain: u8, t: Tally) -> Tally
+    requires { ⌜ (unsound (length (now frame)) place ≡ false) × (3 ≤ m) × (m ≤ 16) × (t .tags < tagsMost) ⌝ }
+    ensures { λ r. ⌜ tallyOf (now (frame .entry)) place r ≡ mantissaOn (now (frame .entry)) m gain (tallyOf (now (frame .entry)) place t) ⌝ }
 {
     if gain == 1 {
-        return read(frame, m, t);
+        return read(place, m, t);
     }
-    if gain == 2 {
-        return gained(frame, m - 1, m - 1, t);
-    }
-    gained(frame, m - 2, m, t)
+    gained(frame, place, small_of(m, gain), large_of(m, gain), t)
 }
 
 // The mantissas of one bin in all six blocks.
-fn six(frame: &[u8], m: u8, gain: u8, t: Tally) -> Tally
-    requires { ⌜ (3 ≤ m) × (m ≤ 16) × (t .tags + 6 ≤ tagsMost) ⌝ }
-    ensures { λ r. ⌜ tallyOf r ≡ times 6 (mantissaOn (now (frame .entry)) m gain) (tallyOf t) ⌝ }
+fn six(frame: &[u8], place: Place, m: u8, gain: u8, t: Tally) -> Tally
+    requires { ⌜ (unsound (length (now frame)) place ≡ false) × (3 ≤ m) × (m ≤ 16) × (t .tags + 6 ≤ tagsMost) ⌝ }
+    ensures { λ r. ⌜ tallyOf (now (frame .entry)) place r ≡ times 6 (mantissaOn (now (frame .entry)) m gain) (tallyOf (now (frame .entry)) place t) ⌝ }
 {
     let mut u = t;
     let mut i: usize = 0;
     while i < 6 {
-        u = mantissa(frame, m, gain, u);
+        u = mantissa(frame, place, m, gain, u);
         i += 1;
     }
     u
@@ -214,49 +277,40 @@ fn words_of(mode: u8, n: usize) -> usize
 }
 
 // A composite gain: 14 above 26.
-fn composite(frame: &[u8], t: Tally) -> Tally
-    ensures { λ r. ⌜ tallyOf r ≡ compositeOn (now (frame .entry)) (tallyOf t) ⌝ }
+fn composite(frame: &[u8], place: Place, t: Tally) -> Tally
+    requires { ⌜ unsound (length (now frame)) place ≡ false ⌝ }
+    ensures { λ r. ⌜ tallyOf (now (frame .entry)) place r ≡ compositeOn (now (frame .entry)) (tallyOf (now (frame .entry)) place t) ⌝ }
 {
-    let a = read(frame, 5, t);
-    if is_above(a, 26) {
+    let a = read(place, 5, t);
+    if is_above(frame, a, 26) {
         return refuse(Why::GainAbove, a);
     }
     a
 }
 
 // One gain word.
-fn word(frame: &[u8], mode: u8, t: Tally) -> Tally
-    ensures { λ r. ⌜ tallyOf r ≡ wordOn (now (frame .entry)) mode (tallyOf t) ⌝ }
+fn word(frame: &[u8], place: Place, mode: u8, t: Tally) -> Tally
+    requires { ⌜ unsound (length (now frame)) place ≡ false ⌝ }
+    ensures { λ r. ⌜ tallyOf (now (frame .entry)) place r ≡ wordOn (now (frame .entry)) mode (tallyOf (now (frame .entry)) place t) ⌝ }
 {
     if mode == 3 {
-        return composite(frame, t);
+        return composite(frame, place, t);
     }
-    read(frame, 1, t)
+    read(place, 1, t)
 }
 
 // n gain words.
-fn words(frame: &[u8], mode: u8, n: usize, t: Tally) -> Tally
-    ensures { λ r. ⌜ tallyOf r ≡ times n (wordOn (now (frame .entry)) mode) (tallyOf t) ⌝ }
+fn words(frame: &[u8], place: Place, mode: u8, n: usize, t: Tally) -> Tally
+    requires { ⌜ unsound (length (now frame)) place ≡ false ⌝ }
+    ensures { λ r. ⌜ tallyOf (now (frame .entry)) place r ≡ times n (wordOn (now (frame .entry)) mode) (tallyOf (now (frame .entry)) place t) ⌝ }
 {
     let mut u = t;
     let mut i: usize = 0;
     while i < n {
-        u = word(frame, mode, u);
+        u = word(frame, place, mode, u);
         i += 1;
     }
     u
-}
-
-// Bits of a range that lies inside the frame.
-fn peek(frame: &[u8], pos: usize, n: usize) -> u32
-    requires { ⌜ (n ≤ 32) × (pos + n ≤ 8 * length (now frame)) ⌝ }
-    ensures { λ r. ⌜ r ≡ bitsAt (now (frame .entry)) pos n ⌝ }
-{
-    match bits::get(frame, pos, n) {
-        Got::Value(v) => v,
-        // Such a range is never refused.
-        Got::Refused(_) => 0,
-    }
 }
 
 // Digit k of three in base 3, the highest first.
@@ -337,26 +391,27 @@ fn gaq_width(h: u8) -> u8
 }
 
 // One bin: nothing, a vector's index, 13, or six mantissas.
-fn one_bin(frame: &[u8], mode: u8, base: usize, k: usize, h: u8, t: Tally) -> Tally
-    requires { ⌜ (mode < 4) × (base ≤ 32768) × (k ≤ 256) × (base + gainBits mode (k + cond (isActive mode h) 1 0) ≤ 8 * length (now frame)) × (t .tags + 6 ≤ tagsMost) ⌝ }
-    ensures { λ r. ⌜ tallyOf r ≡ binOn (now (frame .entry)) mode base k h (tallyOf t) ⌝ }
+fn one_bin(frame: &[u8], place: Place, mode: u8, base: usize, k: usize, h: u8, t: Tally) -> Tally
+    requires { ⌜ (unsound (length (now frame)) place ≡ false) × (mode < 4) × (base ≤ 32768) × (k ≤ 256) × (base + gainBits mode (k + cond (isActive mode h) 1 0) ≤ 8 * length (now frame)) × (t .tags + 6 ≤ tagsMost) ⌝ }
+    ensures { λ r. ⌜ tallyOf (now (frame .entry)) place r ≡ binOn (now (frame .entry)) mode base k h (tallyOf (now (frame .entry)) place t) ⌝ }
 {
     if h == 0 {
         return t;
     }
     if h < 8 {
-        return read(frame, vector_width(h), t);
+        return read(place, vector_width(h), t);
     }
     if 19 < h {
         return refuse(Why::PointerAbove, t);
     }
     let gain = gain_at(frame, mode, base, k, h);
-    six(frame, gaq_width(h), gain, t)
+    six(frame, place, gaq_width(h), gain, t)
 }
 
 // The bins from start to end.
 fn walk_bins(
     frame: &[u8],
+    place: Place,
     hebap: &[u8],
     start: usize,
     end: usize,
@@ -364,16 +419,16 @@ fn walk_bins(
     base: usize,
     t: Tally,
 ) -> Tally
-    requires { ⌜ (start ≤ end) × (end ≤ 256) × (end ≤ length (now hebap)) × (mode < 4) × (base ≤ 32768) × (t .tags ≤ 0) ⌝ }
+    requires { ⌜ (unsound (length (now frame)) place ≡ false) × (start ≤ end) × (end ≤ 256) × (end ≤ length (now hebap)) × (mode < 4) × (base ≤ 32768) × (t .tags ≤ 0) ⌝ }
     requires { ⌜ base + gainBits mode (countActive mode (slice start end (now hebap))) ≤ 8 * length (now frame) ⌝ }
-    ensures { λ r. ⌜ tallyOf r ≡ walkOn (now (frame .entry)) mode base 0 (slice start end (now (hebap .entry))) (tallyOf t) ⌝ }
+    ensures { λ r. ⌜ tallyOf (now (frame .entry)) place r ≡ walkOn (now (frame .entry)) mode base 0 (slice start end (now (hebap .entry))) (tallyOf (now (frame .entry)) place t) ⌝ }
 {
     let mut u = t;
     let mut k: usize = 0;
     let mut i = start;
     while i < end {
         let h = hebap[i];
-        u = one_bin(frame, mode, base, k, h, u);
+        u = one_bin(frame, place, mode, base, k, h, u);
         k = k + one_if(is_active(mode, h));
         i += 1;
     }
@@ -381,49 +436,67 @@ fn walk_bins(
 }
 
 // The gain words, then the bins.
-fn after_mode(frame: &[u8], hebap: &[u8], start: usize, end: usize, mode: u8, t: Tally) -> Tally
-    requires { ⌜ (start ≤ end) × (end ≤ 256) × (end ≤ length (now hebap)) × (mode < 4) × (t .tags ≤ 0) ⌝ }
-    requires { ⌜ (t .place .pos ≤ t .place .limit) × (t .place .limit ≤ 32768) × (t .place .limit ≤ 8 * length (now frame)) ⌝ }
-    ensures { λ r. ⌜ tallyOf r ≡ binsOn (now (frame .entry)) mode (slice start end (now (hebap .entry))) (tallyOf t) ⌝ }
+fn after_mode(
+    frame: &[u8],
+    place: Place,
+    hebap: &[u8],
+    start: usize,
+    end: usize,
+    mode: u8,
+    t: Tally,
+) -> Tally
+    requires { ⌜ (unsound (length (now frame)) place ≡ false) × (start ≤ end) × (end ≤ 256) × (end ≤ length (now hebap)) × (mode < 4) × (t .tags ≤ 0) × (t .pos ≤ place .limit) ⌝ }
+    ensures { λ r. ⌜ tallyOf (now (frame .entry)) place r ≡ binsOn (now (frame .entry)) mode (slice start end (now (hebap .entry))) (tallyOf (now (frame .entry)) place t) ⌝ }
 {
-    let base = t.place.pos;
+    let base = t.pos;
     let n = count_active(hebap, start, end, mode);
-    let u = words(frame, mode, words_of(mode, n), t);
-    let answer = u.answer;
-    if let Got::Refused(_) = answer {
+    let u = words(frame, place, mode, words_of(mode, n), t);
+    let course = u.course;
+    if let Course::Stopped(_) = course {
         return u;
     }
-    walk_bins(frame, hebap, start, end, mode, base, u)
+    walk_bins(frame, place, hebap, start, end, mode, base, u)
 }
 
 // gaqmod, and what follows it.
-fn walk_all(frame: &[u8], hebap: &[u8], start: usize, end: usize, begun: Tally) -> Tally
-    requires { ⌜ (start ≤ end) × (end ≤ 256) × (end ≤ length (now hebap)) × (begun .tags ≤ 0) ⌝ }
-    ensures { λ r. ⌜ tallyOf r ≡ modeOn (now (frame .entry)) (slice start end (now (hebap .entry))) (readOn (now (frame .entry)) 2 (tallyOf begun)) ⌝ }
+fn walk_all(
+    frame: &[u8],
+    place: Place,
+    hebap: &[u8],
+    start: usize,
+    end: usize,
+    begun: Tally,
+) -> Tally
+    requires { ⌜ (unsound (length (now frame)) place ≡ false) × (start ≤ end) × (end ≤ 256) × (end ≤ length (now hebap)) × (begun .tags ≤ 0) ⌝ }
+    ensures { λ r. ⌜ tallyOf (now (frame .entry)) place r ≡ modeOn (now (frame .entry)) (slice start end (now (hebap .entry))) (readOn (now (frame .entry)) 2 (tallyOf (now (frame .entry)) place begun)) ⌝ }
 {
-    let t = read(frame, 2, begun);
-    let answer = t.answer;
-    match answer {
-        Got::Refused(_) => t,
-        Got::Value(v) => after_mode(frame, hebap, start, end, v as u8, t),
+    let t = read(place, 2, begun);
+    let course = t.course;
+    if let Course::Stopped(_) = course {
+        return t;
     }
+    let mode = last_read(frame, t);
+    after_mode(frame, place, hebap, start, end, mode as u8, t)
 }
 
 // What a walk comes to.
-fn tell(t: Tally) -> AhtWalked
-    ensures { λ r. ⌜ countedOf r ≡ told (tallyOf t) ⌝ }
+fn tell(place: Place, t: Tally) -> AhtWalked
+    ensures { λ r. ⌜ ((frame : List ℕ) → countedOf r ≡ told (tallyOf frame place t)) ⌝ }
 {
-    let answer = t.answer;
-    let place = t.place;
-    match answer {
-        Got::Value(_) => AhtWalked {
+    let course = t.course;
+    let at = stands(place, t.pos);
+    match course {
+        Course::On => AhtWalked {
             answer: Counted::Tags(t.tags),
-            place,
+            place: at,
         },
-        Got::Refused(r) => AhtWalked {
-            answer: Counted::Refused(r),
-            place,
-        },
+        Course::Stopped(why) => {
+            let r = Refusal { why, bit: t.pos };
+            AhtWalked {
+                answer: Counted::Refused(r),
+                place: at,
+            }
+        }
     }
 }
 
@@ -445,12 +518,13 @@ pub fn aht(frame: &[u8], place: Place, hebap: &[u8; 256], start: Bin, end: Bin) 
     let first = start.0;
     let last = end.0;
     let begun = Tally {
-        answer: Got::Value(0),
-        place,
+        pos: place.pos,
+        last: 0,
         tags: 0,
+        course: Course::On,
     };
     if is_unfit(frame.len(), place, first, last) {
-        return tell(refuse(Why::BadArgument, begun));
+        return tell(place, refuse(Why::BadArgument, begun));
     }
-    tell(walk_all(frame, hebap, first, last, begun))
+    tell(place, walk_all(frame, place, hebap, first, last, begun))
 }

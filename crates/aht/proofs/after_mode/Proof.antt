@@ -1,75 +1,78 @@
--- `aht::after_mode` meets its contract: the gain words are read, and where they are, the bins.
+-- `aht::after_mode` meets its contract: where all gain words are read, they lie inside the frame.
 -- Assumes nothing.
 use Prim.Native.Nat.{ℕ, _*_}
-use mathlib.Core.Path.{_∙_, sym, ap}
-use native.Mathlib.Omega.{arith}
-use denote.Ref.{now}
+use mathlib.Core.Path.{_≡_, _∙_, sym, ap}
 use lib.ListN.{length}
 use lib.Seq.{slice}
-use Rattle.bits.specs.Answers.{gotOf}
-use Rattle.aht.specs.Aht.{Walk, tallyOf, times, sections, gainBits, countActive, wordOn}
-use Rattle.aht.proofs.Laws.{words-tags, words-moved, moved-inside, words-stay, words-on}
+use denote.Ref.{now}
+use Rattle.syntax.proofs.Tests.{sound-limit}
+use Rattle.aht.specs.Aht.{Walk, tallyOf, times, wordOn, countActive, sections, gainBits}
+use Rattle.aht.proofs.Laws.{goes-on, has-stopped, words-stay, words-on, words-moved, words-tags, moved-inside}
 use borrow.Author.Needs.{needs}
+use native.Mathlib.Omega.{arith}
 use Rattle.aht.proofs.after_mode.Statement.{statement}
 use Rattle.aht.proofs.after_mode.Tie as tie
 
 count-active-requires : tie.Need-count-active-requires
 count-active-requires c κs =
-    let p = c .before .before .pre .0 in (p .0, p .1, p .2)
+    let p = c .before .before .pre in (p .1, p .2, p .3)
 
 words-of-requires : tie.Need-words-of-requires
 words-of-requires c κs =
     c .count-active .ensures .1
 
+words-requires : tie.Need-words-requires
+words-requires c κs =
+    c .before .before .before .before .pre .0
+
+-- all gain words are read
+read-all : (c : tie.After-words) → let a = c .before .before .before .before .before .args in
+    tallyOf (now (a .frame)) (a .place) (c .words .result)
+    ≡ times (sections (a .mode) (countActive (a .mode) (slice (a .start) (a .end) (now (a .hebap))))) (wordOn (now (a .frame)) (a .mode)) (tallyOf (now (a .frame)) (a .place) (a .t))
+read-all c =
+    let a = c .before .before .before .before .before .args in
+    c .words .ensures
+    ∙ ap (λ (n : ℕ). times n (wordOn (now (a .frame)) (a .mode)) (tallyOf (now (a .frame)) (a .place) (a .t)))
+    (c .before .words-of .ensures ∙ ap (sections (a .mode)) (c .before .before .count-active .ensures .0))
+
 returns : tie.Need-returns
 returns c =
     let a = c .before .before .before .before .before .before .before .args in
-    let e =
-    c .before .before .words .ensures
-    ∙ ap (λ (n : ℕ). times n (wordOn (now (a .frame)) (a .mode)) (tallyOf (a .t)))
-    (c .before .before .before .words-of .ensures ∙ ap (sections (a .mode)) (c .before .before .before .before .count-active .ensures .0)) in
-    words-stay (now (a .frame)) (slice (a .start) (a .end) (now (a .hebap))) (tallyOf (a .t)) (a .mode) (tallyOf (c .before .before .words .result)) e
-    (ap gotOf (c .enum-told .given .1))
+    let f = now (a .frame) in
+    words-stay f (slice (a .start) (a .end) (now (a .hebap))) (tallyOf f (a .place) (a .t)) (a .mode) (tallyOf f (a .place) (c .before .before .words .result)) (read-all (c .before .before))
+    (has-stopped f (c .before .before .words .result) (c .enum-told .given .1))
 
 walk-bins-requires : tie.Need-walk-bins-requires
 walk-bins-requires c κs =
     let a = c .before .before .before .before .before .before .before .args in
-    let p = c .before .before .before .before .before .before .before .pre .0 in
-    let q = c .before .before .before .before .before .before .before .pre .1 in
+    let p = c .before .before .before .before .before .before .before .pre in
+    let f = now (a .frame) in
+    let r = tallyOf f (a .place) (a .t) in
     let n = countActive (a .mode) (slice (a .start) (a .end) (now (a .hebap))) in
-    let e =
-    c .before .before .words .ensures
-    ∙ ap (λ (n : ℕ). times n (wordOn (now (a .frame)) (a .mode)) (tallyOf (a .t)))
-    (c .before .before .before .words-of .ensures ∙ ap (sections (a .mode)) (c .before .before .before .before .count-active .ensures .0)) in
+    let e = read-all (c .before .before) in
+    let s = sound-limit (length f) (a .place) (p .0) in
     let m =
-    words-moved (now (a .frame)) (a .mode) (sections (a .mode) n) (tallyOf (a .t)) (q .0)
-    (ap (λ (r : Walk). r .outcome) (sym e) ∙ ap gotOf (c .enum-told2 .given .1)) in (
+    words-moved f (a .mode) (sections (a .mode) n) r (p .6)
+    (ap (λ (w : Walk). w .outcome) (sym e) ∙ goes-on f (c .before .before .words .result) (c .enum-told2 .given .1)) in (
       (
         p .0,
         p .1,
         p .2,
         p .3,
-        omega (arith, q .0, q .1),
-        omega (
-          arith,
-          ap (λ (r : Walk). r .state .tags) e,
-          words-tags (now (a .frame)) (a .mode) (sections (a .mode) n) (tallyOf (a .t)),
-          p .4,
-        ),
+        p .4,
+        omega (arith, p .6, s .0),
+        omega (arith, ap (λ (w : Walk). w .state .tags) e, words-tags f (a .mode) (sections (a .mode) n) r, p .5),
       ),
-      moved-inside (tallyOf (a .t)) _ (gainBits (a .mode) n) (8 * length (now (a .frame))) m (q .2),
+      moved-inside r _ (gainBits (a .mode) n) (8 * length f) m (s .1),
     )
 
 returns-2 : tie.Need-returns-2
 returns-2 c =
     let a = c .before .before .before .before .before .before .before .before .args in
-    let e =
-    c .before .before .before .words .ensures
-    ∙ ap (λ (n : ℕ). times n (wordOn (now (a .frame)) (a .mode)) (tallyOf (a .t)))
-    (c .before .before .before .before .words-of .ensures ∙ ap (sections (a .mode)) (c .before .before .before .before .before .count-active .ensures .0)) in
+    let f = now (a .frame) in
     c .walk-bins .ensures
-    ∙ words-on (now (a .frame)) (slice (a .start) (a .end) (now (a .hebap))) (tallyOf (a .t)) (a .mode) (tallyOf (c .before .before .before .words .result)) e
-    (ap gotOf (c .before .enum-told2 .given .1))
+    ∙ words-on f (slice (a .start) (a .end) (now (a .hebap))) (tallyOf f (a .place) (a .t)) (a .mode) (tallyOf f (a .place) (c .before .before .before .words .result)) (read-all (c .before .before .before))
+    (goes-on f (c .before .before .before .words .result) (c .before .enum-told2 .given .1))
 
 pub after-mode-spec : {M : Type 1} → statement M
 after-mode-spec =
@@ -77,7 +80,7 @@ after-mode-spec =
     (tie.spec
     count-active-requires
     words-of-requires
-    (λ c κs. search needs)
+    words-requires
     (λ c. search needs)
     returns
     (λ c. search needs)

@@ -1,46 +1,58 @@
--- `aht::one_bin` meets its contract: each kind of bin is a case of the definition.
+-- `aht::one_bin` meets its contract: each way through it is a case of the definition.
 -- Assumes nothing.
 use Prim.Native.Nat.{ℕ}
 use mathlib.Core.Path.{_∙_, ap}
 use denote.Ref.{now}
-use Rattle.aht.specs.Aht.{tallyOf, readOn, times, gaqWidth, mantissaOn}
-use Rattle.aht.proofs.Laws.{bin-none, bin-vector, bin-above, bin-six}
+use Rattle.aht.specs.Aht.{tallyOf, readOn, times, mantissaOn, gaqWidth}
+use Rattle.aht.proofs.Laws.{vector-bound, bin-none, bin-vector, bin-above, bin-six}
 use borrow.Author.Needs.{needs}
+use native.Mathlib.Omega.{arith}
 use Rattle.aht.proofs.one_bin.Statement.{statement}
 use Rattle.aht.proofs.one_bin.Tie as tie
 
 returns : tie.Need-returns
 returns c =
-    let a = c .before .before .args in bin-none (now (a .frame)) (tallyOf (a .t)) (a .mode) (a .base) (a .k) (a .h) (c .if1 .taken)
+    let a = c .before .before .args in
+    let f = now (a .frame) in
+    bin-none f (tallyOf f (a .place) (a .t)) (a .mode) (a .base) (a .k) (a .h) (c .if1 .taken)
+
+read-requires : tie.Need-read-requires
+read-requires c κs =
+    omega (arith, c .vector-width .ensures, vector-bound (c .before .before .before .before .args .h) (c .before .if2 .taken))
 
 returns-2 : tie.Need-returns-2
 returns-2 c =
     let a = c .before .before .before .before .before .args in
-    c .read .ensures
-    ∙ ap (λ (n : ℕ). readOn (now (a .frame)) n (tallyOf (a .t))) (c .before .vector-width .ensures)
-    ∙ bin-vector (now (a .frame)) (tallyOf (a .t)) (a .mode) (a .base) (a .k) (a .h) (c .before .before .before .if1 .left) (c .before .before .if2 .taken)
+    let f = now (a .frame) in
+    let r = tallyOf f (a .place) (a .t) in
+    c .read .ensures .0 f (c .before .before .before .before .before .pre .0)
+    ∙ ap (λ (n : ℕ). readOn f n r) (c .before .vector-width .ensures)
+    ∙ bin-vector f r (a .mode) (a .base) (a .k) (a .h) (c .before .before .before .if1 .left) (c .before .before .if2 .taken)
 
 returns-3 : tie.Need-returns-3
 returns-3 c =
     let a = c .before .before .before .before .before .args in
-    c .refuse .ensures
-    ∙ bin-above (now (a .frame)) (tallyOf (a .t)) (a .mode) (a .base) (a .k) (a .h) (c .before .before .before .if1 .left) (c .before .before .if2 .left) (c .before .if3 .taken)
+    let f = now (a .frame) in
+    c .refuse .ensures f (a .place)
+    ∙ bin-above f (tallyOf f (a .place) (a .t)) (a .mode) (a .base) (a .k) (a .h) (c .before .before .before .if1 .left) (c .before .before .if2 .left) (c .before .if3 .taken)
 
 gain-at-requires : tie.Need-gain-at-requires
 gain-at-requires c κs =
-    let p = c .before .before .before .before .pre in (p .0, p .1, p .2, p .3)
+    let p = c .before .before .before .before .pre in (p .1, p .2, p .3, p .4)
 
 six-requires : tie.Need-six-requires
 six-requires c κs =
-    (c .gaq-width .ensures .1, c .gaq-width .ensures .2, c .before .before .before .before .before .before .pre .4)
+    (c .before .before .before .before .before .before .pre .0, c .gaq-width .ensures .1, c .gaq-width .ensures .2, c .before .before .before .before .before .before .pre .5)
 
 returns-4 : tie.Need-returns-4
 returns-4 c =
     let a = c .before .before .before .before .before .before .before .args in
+    let f = now (a .frame) in
+    let r = tallyOf f (a .place) (a .t) in
     c .six .ensures
-    ∙ ap (λ (m : ℕ). times 6 (mantissaOn (now (a .frame)) m (c .before .before .gain-at .result)) (tallyOf (a .t))) (c .before .gaq-width .ensures .0)
-    ∙ ap (λ (g : ℕ). times 6 (mantissaOn (now (a .frame)) (gaqWidth (a .h)) g) (tallyOf (a .t))) (c .before .before .gain-at .ensures)
-    ∙ bin-six (now (a .frame)) (tallyOf (a .t)) (a .mode) (a .base) (a .k) (a .h) (c .before .before .before .before .before .if1 .left) (c .before .before .before .before .if2 .left) (c .before .before .before .if3 .left)
+    ∙ ap (λ (m : ℕ). times 6 (mantissaOn f m (c .before .before .gain-at .result)) r) (c .before .gaq-width .ensures .0)
+    ∙ ap (λ (g : ℕ). times 6 (mantissaOn f (gaqWidth (a .h)) g) r) (c .before .before .gain-at .ensures)
+    ∙ bin-six f r (a .mode) (a .base) (a .k) (a .h) (c .before .before .before .before .before .if1 .left) (c .before .before .before .before .if2 .left) (c .before .before .before .if3 .left)
 
 pub one-bin-spec : {M : Type 1} → statement M
 one-bin-spec =
@@ -48,7 +60,7 @@ one-bin-spec =
     (tie.spec
     returns
     (λ c κs. search needs)
-    (λ c κs. search needs)
+    read-requires
     returns-2
     (λ c κs. search needs)
     returns-3

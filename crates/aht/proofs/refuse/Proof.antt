@@ -1,21 +1,22 @@
--- `aht::refuse` meets its contract: a walk that is refused stays, another ends where it stands.
+-- `aht::refuse` meets its contract: a walk that goes on stops, one that has stopped stays.
 -- Assumes nothing.
-use mathlib.Core.Path.{ap}
-use Rattle.bits.specs.Answers.{gotOf}
+use mathlib.Core.Path.{_∙_, ap}
 use Rattle.refusal.specs.Refusals.{numberOf}
 use Rattle.aht.specs.Aht.{tallyOf}
-use Rattle.aht.proofs.Laws.{refuse-stays, refuse-on}
+use Rattle.aht.proofs.Laws.{goes-on, has-stopped, refuse-stays, refuse-on}
 use borrow.Author.Needs.{needs}
 use Rattle.aht.proofs.refuse.Statement.{statement}
 use Rattle.aht.proofs.refuse.Tie as tie
 
 returns : tie.Need-returns
 returns c =
-    let a = c .before .before .args in refuse-stays (tallyOf (a .t)) (numberOf (a .why)) (ap gotOf (c .enum-told .given .1))
+    let a = c .before .before .args in
+    (λ frame place. refuse-stays (tallyOf frame place (a .t)) (numberOf (a .why)) (has-stopped frame (a .t) (c .enum-told .given .1)))
 
 returns-2 : tie.Need-returns-2
 returns-2 c =
-    let a = c .before .before .before .args in refuse-on (tallyOf (a .t)) (numberOf (a .why)) (ap gotOf (c .before .enum-told2 .given .1))
+    let a = c .before .before .before .args in
+    (λ frame place. ap (tallyOf frame place) (c .stopped .ensures) ∙ refuse-on (tallyOf frame place (a .t)) (numberOf (a .why)) (goes-on frame (a .t) (c .before .enum-told2 .given .1)))
 
 pub refuse-spec : {M : Type 1} → statement M
 refuse-spec =
@@ -24,4 +25,5 @@ refuse-spec =
     (λ c. search needs)
     returns
     (λ c. search needs)
+    (λ c κs. search needs)
     returns-2)

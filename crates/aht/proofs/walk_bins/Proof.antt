@@ -15,16 +15,16 @@ use Rattle.aht.proofs.walk_bins.Statement.{statement}
 use Rattle.aht.proofs.walk_bins.Tie as tie
 
 abbrev Inv-loop : tie.InvT-loop
-Inv-loop frame hebap start end mode base u₀ k₀ i₀ u k i =
+Inv-loop frame place hebap start end mode base u₀ k₀ i₀ u k i =
     (i ≤ end) × (k ≤ i) × (u .tags ≤ 6 * i) × (base + gainBits mode (k + countActive mode (slice i end hebap)) ≤ 8 * length frame)
-    × (walkOn frame mode base k (slice i end hebap) (tallyOf u) ≡ walkOn frame mode base 0 (slice start end hebap) (tallyOf u₀))
+    × (walkOn frame mode base k (slice i end hebap) (tallyOf frame place u) ≡ walkOn frame mode base 0 (slice start end hebap) (tallyOf frame place u₀))
 
 abbrev μ-loop : tie.MeasureT-loop
-μ-loop frame hebap start end mode base u₀ k₀ i₀ u k i = end - i
+μ-loop frame place hebap start end mode base u₀ k₀ i₀ u k i = end - i
 
 loop-holds : tie.Need-loop-holds Inv-loop μ-loop
 loop-holds c =
-    (c .before .before .pre .0 .0, omega arith, omega (arith, c .before .before .pre .0 .5), rw zero-add (c .before .before .pre .1), refl)
+    (c .before .before .pre .0 .1, omega arith, omega (arith, c .before .before .pre .0 .6), rw zero-add (c .before .before .pre .1), refl)
 
 one-bin-requires : tie.Need-one-bin-requires Inv-loop μ-loop
 one-bin-requires c κs =
@@ -32,13 +32,14 @@ one-bin-requires c κs =
     let a = c .before .before .before .before .before .args in
     let p = c .before .before .before .before .before .pre in
     let h : ℕ = cond (isActive (a .mode) (getD (now (a .hebap)) (l .i) 0)) 1 0 in
-    let t = count-turn (now (a .hebap)) (l .i) (a .end) (c .before .loop-test .taken) (p .0 .2) (a .mode) in (
-      p .0 .3,
+    let t = count-turn (now (a .hebap)) (l .i) (a .end) (c .before .loop-test .taken) (p .0 .3) (a .mode) in (
+      p .0 .0,
       p .0 .4,
-      omega (arith, l .inv .1, p .0 .1),
+      p .0 .5,
+      omega (arith, l .inv .1, p .0 .2),
       inside-less (a .mode) (a .base) (l .k + h) (l .k + countActive (a .mode) (slice (l .i) (a .end) (now (a .hebap)))) (8 * length (now (a .frame)))
           (omega (arith, t)) (l .inv .3),
-      omega (arith, l .inv .2, p .0 .1, c .before .loop-test .taken),
+      omega (arith, l .inv .2, p .0 .2, c .before .loop-test .taken),
     )
 
 loop-again : tie.Need-loop-again Inv-loop μ-loop
@@ -49,17 +50,17 @@ loop-again c =
     let b = c .before .before .one-bin in
     let h = getD (now (a .hebap)) (l .i) 0 in
     let rest = slice (l .i + 1) (a .end) (now (a .hebap)) in
-    let t = count-turn (now (a .hebap)) (l .i) (a .end) (c .before .before .before .before .loop-test .taken) (c .before .before .before .before .before .before .before .before .pre .0 .2) (a .mode) in
+    let t = count-turn (now (a .hebap)) (l .i) (a .end) (c .before .before .before .before .loop-test .taken) (c .before .before .before .before .before .before .before .before .pre .0 .3) (a .mode) in
     let e : c .one-if .result ≡ cond (isActive (a .mode) h) 1 0
     = c .one-if .ensures ∙ ap {B = ℕ} (λ (t : Bool). cond t 1 0) (c .before .is-active .ensures) in (
       omega arith,
       omega (arith, e, one-more (isActive (a .mode) h), l .inv .1),
-      omega (arith, ap (λ (r : Walk). r .state .tags) (b .ensures), bin-tags f (a .mode) (a .base) (l .k) h (tallyOf (l .u)), l .inv .2),
+      omega (arith, ap (λ (r : Walk). r .state .tags) (b .ensures), bin-tags f (a .mode) (a .base) (l .k) h (tallyOf f (a .place) (l .u)), l .inv .2),
       inside-less (a .mode) (a .base) (l .k + c .one-if .result + countActive (a .mode) rest)
           (l .k + countActive (a .mode) (slice (l .i) (a .end) (now (a .hebap)))) (8 * length f) (omega (arith, e, t)) (l .inv .3),
-      ap (λ (n : ℕ). walkOn f (a .mode) (a .base) (l .k + n) rest (tallyOf (b .result))) e
+      ap (λ (n : ℕ). walkOn f (a .mode) (a .base) (l .k + n) rest (tallyOf f (a .place) (b .result))) e
           ∙ ap (walkOn f (a .mode) (a .base) (l .k + cond (isActive (a .mode) h) 1 0) rest) (b .ensures)
-          ∙ sym (walk-turn (now (a .hebap)) (l .i) (a .end) (c .before .before .before .before .loop-test .taken) (c .before .before .before .before .before .before .before .before .pre .0 .2) f (a .mode) (a .base) (l .k) (tallyOf (l .u)))
+          ∙ sym (walk-turn (now (a .hebap)) (l .i) (a .end) (c .before .before .before .before .loop-test .taken) (c .before .before .before .before .before .before .before .before .pre .0 .3) f (a .mode) (a .base) (l .k) (tallyOf f (a .place) (l .u)))
           ∙ l .inv .4,
     )
 
@@ -67,7 +68,7 @@ returns : tie.Need-returns Inv-loop μ-loop
 returns c =
     let l = c .before .loop in
     let a = c .before .before .before .before .args in
-    sym (walk-none (now (a .hebap)) (l .i) (a .end) (now (a .frame)) (a .mode) (a .base) (l .k) (tallyOf (l .u)) (omega arith)) ∙ l .inv .4
+    sym (walk-none (now (a .hebap)) (l .i) (a .end) (now (a .frame)) (a .mode) (a .base) (l .k) (tallyOf (now (a .frame)) (a .place) (l .u)) (omega arith)) ∙ l .inv .4
 
 pub walk-bins-spec : {M : Type 1} → statement M
 walk-bins-spec =
@@ -76,11 +77,11 @@ walk-bins-spec =
     Inv-loop
     μ-loop
     loop-holds
-    (λ c. omega (arith, c .before .before .before .before .before .pre .0 .2))
+    (λ c. omega (arith, c .before .before .before .before .before .pre .0 .3))
     one-bin-requires
     (λ c κs. search needs)
     (λ c κs. search needs)
-    (λ c. omega (arith, c .one-if .ensures, one-more (c .before .is-active .result), c .before .before .before .before .before .loop .inv .1, c .before .before .before .before .before .before .before .before .pre .0 .1))
+    (λ c. omega (arith, c .one-if .ensures, one-more (c .before .is-active .result), c .before .before .before .before .before .loop .inv .1, c .before .before .before .before .before .before .before .before .pre .0 .2))
     (λ c. omega arith)
     (λ c. omega arith)
     loop-again
