@@ -60,6 +60,33 @@ module _ (z : ℤ) (f : SFits w16 z) where
   pub plain-back : ltZ (toZ w16 (ofZ w16 z)) (pos 0) ≡ false → toZ w16 (ofZ w16 z) ≡ pos (signedWord z)
   plain-back t = toZ-ofZ f ∙ plain z (rw (toZ-ofZ f) at t)
 
+-- and without a test: the low bits of any number and 65,536 are its word
+abbrev lifted : ℤ → ℕ
+lifted (pos n) = n + 65536
+lifted (negsuc n) = 65536 - suc n
+
+lifted-is : (z : ℤ) → SFits w16 z → z +ℤ pos 65536 ≡ pos (lifted z)
+lifted-is (pos n) f = refl
+lifted-is (negsuc n) f = let h : n < 32768 = f .sfits in simp (le-ltb 65536 (suc n) (omega arith))
+
+pub lifted-lt : (z : ℤ) → SFits w16 z → lifted z < 98304
+lifted-lt (pos n) f = let h : n < 32768 = f .sfits in omega arith
+lifted-lt (negsuc n) f = omega arith
+
+pub lifted-low : (z : ℤ) → SFits w16 z → lifted z % 65536 ≡ signedWord z
+lifted-low (pos n) f = let h : n < 32768 = f .sfits in omega arith
+lifted-low (negsuc n) f = omega arith
+
+module _ (z : ℤ) (f : SFits w16 z) where
+  lift-is : toZ w32 (ofZ w32 (toZ w16 (ofZ w16 z))) +ℤ pos 65536 ≡ pos (lifted z)
+  lift-is = rw (back z f) (lifted-is z f)
+
+  pub lift-fits : SFits w32 (toZ w32 (ofZ w32 (toZ w16 (ofZ w16 z))) +ℤ pos 65536)
+  lift-fits = rw lift-is (record { sfits = let h : lifted z < 98304 = lifted-lt z f in omega arith })
+
+  pub lift-back : toZ w32 (ofZ w32 (toZ w32 (ofZ w32 (toZ w16 (ofZ w16 z))) +ℤ pos 65536)) ≡ pos (lifted z)
+  lift-back = toZ-ofZ lift-fits ∙ lift-is
+
 -- a word less its modulus
 lowered : (full n : ℕ) → n < full → pos n -ℤ pos full ≡ negsuc (full - 1 - n)
 lowered zero n l = absurd (omega arith)

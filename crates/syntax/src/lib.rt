@@ -234,11 +234,7 @@ pub fn end(e: Element) -> usize
 fn signed_word(x: i16) -> u32
     ensures { λ r. ⌜ r ≡ signedWord x ⌝ }
 {
-    if x < 0 {
-        ((x as i32) + 65536) as u32
-    } else {
-        x as u32
-    }
+    ((x as i32) + 65536) as u32 % 65536
 }
 
 // The same of a block.
