@@ -1,4 +1,4 @@
--- For each exported function, any two replies that its contract allows are equal: the number answered, and what the lent room holds.
+-- For each public function, any two replies that its contract allows are equal: the number answered, and what the lent room holds.
 -- Assumes nothing.
 use mathlib.Core.Path.{_≡_, sym, _∙_}
 use Prim.Native.Nat.{ℕ}
@@ -6,6 +6,7 @@ use contract.Lifetimes.{Lfts}
 use borrow.Fn.Kinds.{Dens, endedOf}
 use denote.Triple.Clauses.{AtExit}
 use denote.Ref.{now}
+use Rattle.refusal.proofs.Decides.{Decides}
 use Rattle.capi.specs.Replies.{told, reply, running}
 use Rattle.capi.specs.Standings.{stood, moved, advanced, fields}
 use Rattle.capi.specs.Walks.{groupsOf, carried}
@@ -51,6 +52,8 @@ use Rattle.capi.proofs.mantissas.zela_aht.Kinds as aht-kinds
 use Rattle.capi.proofs.mantissas.zela_aht.Reads as aht-reads
 use Rattle.capi.proofs.sets.zela_read_exponents.Kinds as read-exponents-kinds
 use Rattle.capi.proofs.sets.zela_read_exponents.Reads as read-exponents-reads
+use Rattle.capi.proofs.state.state_from.Kinds as state-from-kinds
+use Rattle.capi.proofs.state.state_from.Reads as state-from-reads
 use Rattle.capi.proofs.state.zela_delta_code.Kinds as delta-code-kinds
 use Rattle.capi.proofs.state.zela_delta_code.Reads as delta-code-reads
 use Rattle.capi.proofs.state.zela_read_delta.Kinds as read-delta-kinds
@@ -174,6 +177,9 @@ pub read-exponents-one : (κs : Lfts 8) (a : Dens κs read-exponents-kinds.ps) (
     → unpacked x (now (s .1 .1 .1 .1 .1 .1 .1 .1 .1 .1 .1 .1 .1 .0)) (now (s .1 .1 .0)) (now (s .1 .1 .1 .1 .1 .0)) (now (s .1 .0)) (setOf (now (s .1 .1 .1 .1 .1 .1 .1 .1 .1 .1 .0)) (now (s .1 .1 .1 .1 .1 .1 .1 .1 .1 .1 .1 .0)) (now (s .1 .1 .1 .1 .1 .1 .1 .1 .1 .1 .1 .1 .0)))
     ≡ unpacked y (now (t .1 .1 .1 .1 .1 .1 .1 .1 .1 .1 .1 .1 .1 .0)) (now (t .1 .1 .0)) (now (t .1 .1 .1 .1 .1 .0)) (now (t .1 .0)) (setOf (now (t .1 .1 .1 .1 .1 .1 .1 .1 .1 .1 .0)) (now (t .1 .1 .1 .1 .1 .1 .1 .1 .1 .1 .1 .0)) (now (t .1 .1 .1 .1 .1 .1 .1 .1 .1 .1 .1 .1 .0)))
 read-exponents-one κs a x y s t p q = p ∙ sym q
+
+pub state-from-one : Decides 1 state-from-kinds.ps state-from-kinds.r state-from-reads.Post
+state-from-one κs a x y s t p q = p ∙ sym q
 
 pub delta-code-one : (κs : Lfts 2) (a : Dens κs delta-code-kinds.ps) (x y : ℕ) (s t : AtExit (endedOf 2 delta-code-kinds.ps delta-code-kinds.r) κs)
     → delta-code-reads.Post κs a x s → delta-code-reads.Post κs a y t
