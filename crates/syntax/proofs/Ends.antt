@@ -16,7 +16,7 @@ use Rattle.syntax.specs.declared.Ask.{Ask}
 use Rattle.syntax.specs.declared.Place.{Place}
 use Rattle.syntax.specs.declared.Reading.{Reading}
 use Rattle.syntax.specs.declared.Reader.{Reader}
-use Rattle.syntax.specs.Reads.{Standing, standing, readingOf, rawReadingOf, fits, elementOf, logged, readOf, spanAsk, spanOf, closes, closeOf, nextOf, seenOf, readerOf}
+use Rattle.syntax.specs.Reads.{Standing, standing, readingOf, rawReadingOf, fits, valueAt, elementOf, logged, readOf, spanAsk, spanOf, closes, closeOf, nextOf, seenOf, readerOf}
 use Rattle.syntax.proofs.Bools.{clash}
 
 module _ {S A : Type 0} (s s′ : S) where
@@ -27,13 +27,6 @@ module _ {S A : Type 0} (s s′ : S) where
   then-taken false g (taken x) v e f = refl
   then-taken false g (refused h) v e f = never f
 
-  then-refused : (test : Bool) (g : Grounds) (o : Outcome Unit) (v : A) {h : Grounds} → test ≡ false → o ≡ refused h
-      → settle s s′ (cond test (refused g) (andThen o (λ _. taken v))) ≡ record { outcome = refused h; state = s }
-  then-refused true g o v e f = clash e
-  then-refused false g (taken x) v e f = never (sym f)
-  then-refused false g (refused k) v e f =
-      ap (λ (o : Outcome Unit). settle s s′ (andThen o (λ _. taken v))) f
-
 -- a reading's meaning, by its parts
 pub raw-is : (q : Reading) {p : Place} {o : Outcome ℕ} → q .place ≡ p → gotOf (q .answer) ≡ o → rawReadingOf q ≡ record { outcome = o; state = p }
 raw-is q {p} e f =
@@ -43,7 +36,7 @@ pub reading-is : (q : Reading) (log : List ℕ) {p : Place} {o : Outcome ℕ} �
     → readingOf q log ≡ record { outcome = o; state = standing p log }
 reading-is q log e f = ap {B = Ran Standing ℕ} (λ (x : Ran Place ℕ). record { outcome = x .outcome; state = standing (x .state) log }) (raw-is q e f)
 
--- the two ends of a read whose width is at most 32
+-- a read that is taken, whose width is at most 32
 module _ (frame : List ℕ) (st : Standing) (a : Ask) (narrow : a .width ≤ 32) where
   pub read-on : (v : ℕ) → v ≡ bitsAt frame (st .place .pos) (a .width)
       → fits (length frame) (length (st .log)) (st .place) (a .width) ≡ taken tt
@@ -52,16 +45,17 @@ module _ (frame : List ℕ) (st : Standing) (a : Ask) (narrow : a .width ≤ 32)
   unfolding readOf
   read-on v e f = rw e (sym (then-taken _ _ (ltb 32 (a .width)) _ (fits (length frame) (length (st .log)) (st .place) (a .width)) _ (le-ltb 32 (a .width) narrow) f))
 
-  pub read-stops : {g : Grounds} → fits (length frame) (length (st .log)) (st .place) (a .width) ≡ refused g
-      → _≡_ {A = Ran Standing ℕ} (record { outcome = refused g; state = st }) (readOf frame st a)
-  unfolding readOf
-  read-stops f = sym (then-refused _ _ (ltb 32 (a .width)) _ (fits (length frame) (length (st .log)) (st .place) (a .width)) _ (le-ltb 32 (a .width) narrow) f)
+-- and of its value alone
+module _ (frame : List ℕ) (words : ℕ) (p : Place) (width : ℕ) where
+  pub value-wide : 32 < width → _≡_ {A = Outcome ℕ} (refused (grounds 6 (p .pos))) (valueAt frame words p width)
+  value-wide h = simp (lt-ltb 32 width h)
 
--- a wider one is refused
-pub read-wide : (frame : List ℕ) (st : Standing) (a : Ask) → 32 < a .width
-    → _≡_ {A = Ran Standing ℕ} (record { outcome = refused (grounds 6 (st .place .pos)); state = st }) (readOf frame st a)
-unfolding readOf
-read-wide frame st a h = simp (lt-ltb 32 (a .width) h)
+  module _ (narrow : width ≤ 32) where
+    pub value-on : (v : ℕ) → v ≡ bitsAt frame (p .pos) width → fits (length frame) words p width ≡ taken tt → taken v ≡ valueAt frame words p width
+    value-on v e f = simp (le-ltb 32 width narrow, f) (ap taken e)
+
+    pub value-stops : {g : Grounds} → fits (length frame) words p width ≡ refused g → _≡_ {A = Outcome ℕ} (refused g) (valueAt frame words p width)
+    value-stops f = simp (le-ltb 32 width narrow, f)
 
 -- the two ends of a span
 module _ (len : ℕ) (st : Standing) (name : ℕ) (role : Role) (width : ℕ) where

@@ -11,7 +11,7 @@ use lib.ListN.{length, getD}
 use lib.Dec.{ltb}
 use borrow.Author.Tests.{ltb-false, le-ltb}
 use Rattle.refusal.specs.Refusals.{Grounds, Outcome, taken, refused, andThen, Ran, settle}
-use Rattle.refusal.proofs.Laws.{never, taken-same, past-test, past-then}
+use Rattle.refusal.proofs.Laws.{never, settle-stays, settle-moves, taken-same, past-test, past-then}
 use Rattle.bits.specs.Bits.{bitsAt}
 use Rattle.bits.proofs.Laws.{bitsAt-lt}
 use Rattle.syntax.specs.declared.Element.{Element}
@@ -19,7 +19,7 @@ use Rattle.syntax.specs.declared.Role.{Role}
 use Rattle.syntax.specs.declared.Place.{Place}
 use Rattle.syntax.specs.declared.Ask.{Ask}
 use Rattle.syntax.specs.Elements.{written}
-use Rattle.syntax.specs.Reads.{Standing, standing, room, unsound, fits, elementOf, logged, readOf, ahead, rawOf, spanAsk, spanOf, closes, closeOf, nextOf}
+use Rattle.syntax.specs.Reads.{Standing, room, unsound, fits, valueAt, elementOf, logged, readOf, ahead, rawOf, spanAsk, spanOf, closes, closeOf, nextOf}
 use Rattle.syntax.proofs.Bools.{or-false}
 use Rattle.syntax.proofs.Log.{length-written, written-before, written-after}
 use Rattle.syntax.proofs.Tests.{sound-limit, limit-sound, Free, room-words, fits-free, free-fits, closes-free, free-closes, Told, told-first, fits-told, closes-told}
@@ -117,17 +117,25 @@ module _ (frame : List ℕ) (st : Standing) (a : Ask) where
       by (taken u) p q = never (sym q)
       by (refused h) p q = fits-told (length frame) (length (st .log)) (st .place) (a .width) (sym p ∙ cc)
 
-  -- a read by its parts: its answer, the log after it, and the place that follows from the answer
-  pub read-passed : (v : ℕ) → readOf frame st a .outcome ≡ taken v → (p : Place) (l : List ℕ)
-      → p ≡ record { pos = st .place .pos + a .width; limit = st .place .limit; block = st .place .block; count = st .place .count + 1 }
-      → l ≡ readOf frame st a .state .log → _≡_ {A = Ran Standing ℕ} (record { outcome = taken v; state = standing p l }) (readOf frame st a)
-  read-passed v o p l e f =
-      let q = e ∙ ap (λ (s : Standing). s .place) (sym (read-taken v o .after)) in λ i. record { outcome = sym o i; state = standing (q i) (f i) }
+  -- a read by its value, taken or refused
+  module _ (v : ℕ) (e : valueAt frame (length (st .log)) (st .place) (a .width) ≡ taken v) where
+    told-outcome : readOf frame st a .outcome ≡ taken v
+    unfolding readOf
+    told-outcome =
+        ap (λ (r : Ran Standing ℕ). r .outcome)
+        (settle-moves st (logged st (elementOf (st .place) (st .place .pos) a bits) (st .place .pos + a .width)) (valueAt frame (length (st .log)) (st .place) (a .width)) e)
 
-  pub read-left : {g : Grounds} → readOf frame st a .outcome ≡ refused g → (l : List ℕ) → l ≡ readOf frame st a .state .log
-      → _≡_ {A = Ran Standing ℕ} (record { outcome = refused g; state = standing (st .place) l }) (readOf frame st a)
-  read-left {g} o l f =
-      let q = ap (λ (s : Standing). s .place) (sym (read-refused g o .0)) in λ i. record { outcome = sym o i; state = standing (q i) (f i) }
+    pub read-told : ReadTaken frame st a v
+    read-told = read-taken v told-outcome
+
+    pub read-moves : _≡_ {A = Ran Standing ℕ}
+        (record { outcome = taken v; state = logged st (elementOf (st .place) (st .place .pos) a v) (st .place .pos + a .width) }) (readOf frame st a)
+    read-moves = λ i. record { outcome = sym told-outcome i; state = sym (read-told .after) i }
+
+  pub read-halts : {g : Grounds} → valueAt frame (length (st .log)) (st .place) (a .width) ≡ refused g
+      → _≡_ {A = Ran Standing ℕ} (record { outcome = refused g; state = st }) (readOf frame st a)
+  unfolding readOf
+  read-halts e = sym (settle-stays st _ (valueAt frame (length (st .log)) (st .place) (a .width)) e)
 
   -- a narrow one with room to the limit and in the log is taken
   pub read-inside : a .width ≤ 32 → Free (length frame) (length (st .log)) (st .place) (st .place .pos) (st .place .pos + a .width)

@@ -78,6 +78,12 @@ logged st e next =
     (record { pos = next; limit = st .place .limit; block = st .place .block; count = st .place .count + 1 })
     (written (st .log) (st .place .count) e)
 
+-- the value of an element of at most 32 bits that can be logged
+abbrev pub valueAt : List ℕ → ℕ → Place → ℕ → Outcome ℕ
+valueAt frame words p width =
+    refuseIf (ltb 32 width) 6 (p .pos)
+    (andThen (fits (length frame) words p width) (λ _. taken (bitsAt frame (p .pos) width)))
+
 -- reading an element of at most 32 bits: the bits' value; "1 and 19 leave the cursor before the element"
 unfoldable pub readOf : List ℕ → Standing → Ask → Ran Standing ℕ
 readOf frame st a =

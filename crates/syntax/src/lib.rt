@@ -19,7 +19,7 @@ ghost use Rattle.bits.specs.Bits.{bitsAt};
 ghost use Rattle.bits.specs.Answers.{gotOf, doneOf};
 ghost use Rattle.syntax.specs.Elements.{roleNumber, programmeOf, roleWord, roleOf, isDrc, isChecksum, isSpan, endOf, signedWord, signedOf, written, decoded};
 ghost use Rattle.syntax.specs.Tiling.{tiles, tilingOf, foundOf, elementAt};
-ghost use Rattle.syntax.specs.Reads.{room, unsound, fits, closes, elementOf, standing, logged, seenOf, shown, readingOf, readOf, rawReadingOf, rawOf, movedOf, spanOf, closeOf, readerOf, nextOf};
+ghost use Rattle.syntax.specs.Reads.{room, unsound, fits, closes, elementOf, standing, logged, seenOf, shown, readingOf, valueAt, readOf, rawReadingOf, rawOf, movedOf, spanOf, closeOf, readerOf, nextOf};
 
 // What an element means to an editor of metadata. Those that carry a number carry their programme.
 pub enum Role {
@@ -457,19 +457,13 @@ fn place_at(place: Place, pos: usize, count: usize) -> Place
     }
 }
 
-// The place after an element that was read and logged.
-fn passed(place: Place, ask: Ask) -> Place
-    requires { ⌜ (place .pos + ask .width ≤ 32768) × (place .count < 4096) ⌝ }
-    ensures { λ r. ⌜ r ≡ record { pos = place .pos + ask .width; limit = place .limit; block = place .block; count = place .count + 1 } ⌝ }
-{
-    place_at(place, place.pos + ask.width, place.count + 1)
-}
-
-// Logs the element that is asked for, from start on.
-fn log_element(log: &mut [u32], place: Place, ask: Ask, start: usize, value: u32)
+// Logs the element that is asked for from start on, and puts the cursor to its end.
+fn log_element(log: &mut [u32], place: Place, ask: Ask, start: usize, value: u32) -> Place
     requires { ⌜ (start + ask .width ≤ 32768) × ((place .count < 4096) × (8 * place .count + 8 ≤ length (now log))) ⌝ }
-    ensures { λ _. ⌜ now (log .exit) ≡ written (now (log .entry)) (place .count) (elementOf place start ask value) ⌝ }
+    ensures { λ r. ⌜ standing r (now (log .exit)) ≡ logged (standing place (now (log .entry))) (elementOf place start ask value) (start + ask .width) ⌝ }
 {
+    let width = ask.width;
+    let count = place.count;
     let role = ask.role;
     let e = Element {
         name: ask.name,
@@ -477,10 +471,11 @@ fn log_element(log: &mut [u32], place: Place, ask: Ask, start: usize, value: u32
         block: place.block,
         index: ask.index,
         pos: start as u32,
-        width: ask.width as u32,
+        width: width as u32,
         value,
     };
-    put_element(log, place.count, e);
+    put_element(log, count, e);
+    place_at(place, start + width, count + 1)
 }
 
 // A read that is refused stays where it is.
@@ -493,20 +488,17 @@ fn stay(place: Place, r: Refusal) -> Reading
     }
 }
 
-// The value of the element at the cursor, once it is logged: 6, then 1, then 19. The place after it is the caller's to make, so that
-// a caller's loop holds its numbers and this one's answer is short.
-fn take_in(frame: &[u8], log: &mut [u32], place: Place, ask: Ask) -> Got
-    ensures { λ r. ⌜ (gotOf r ≡ readOf (now (frame .entry)) (standing place (now (log .entry))) ask .outcome) × (now (log .exit) ≡ readOf (now (frame .entry)) (standing place (now (log .entry))) ask .state .log) ⌝ }
+// The value of an element of width bits at the cursor, where it can be logged: 6, then 1, then 19.
+fn value_at(frame: &[u8], words: usize, place: Place, width: usize) -> Got
+    ensures { λ r. ⌜ gotOf r ≡ valueAt (now (frame .entry)) words place width ⌝ }
 {
     let pos = place.pos;
-    let width = ask.width;
     if 32 < width {
         return Got::Refused(unfit(pos));
     }
-    match fit(frame.len(), log.len(), place, width) {
+    match fit(frame.len(), words, place, width) {
         Put::Done => {
             let value = fetched(frame, pos, width);
-            log_element(log, place, ask, pos, value);
             Got::Value(value)
         }
         Put::Refused(r) => Got::Refused(r),
@@ -517,12 +509,16 @@ fn take_in(frame: &[u8], log: &mut [u32], place: Place, ask: Ask) -> Got
 pub fn read_element(frame: &[u8], log: &mut [u32], place: Place, ask: Ask) -> Reading
     ensures { λ r. ⌜ readingOf r (now (log .exit)) ≡ readOf (now (frame .entry)) (standing place (now (log .entry))) ask ⌝ }
 {
-    let got = take_in(frame, log, place, ask);
+    let pos = place.pos;
+    let got = value_at(frame, log.len(), place, ask.width);
     match got {
-        Got::Value(value) => Reading {
-            answer: Got::Value(value),
-            place: passed(place, ask),
-        },
+        Got::Value(value) => {
+            let next = log_element(log, place, ask, pos, value);
+            Reading {
+                answer: Got::Value(value),
+                place: next,
+            }
+        }
         Got::Refused(r) => stay(place, r),
     }
 }
@@ -568,10 +564,10 @@ pub fn span(
                 index: -1,
                 width,
             };
-            log_element(log, place, ask, pos, 0);
+            let next = log_element(log, place, ask, pos, 0);
             Moved {
                 answer: Put::Done,
-                place: passed(place, ask),
+                place: next,
             }
         }
         Put::Refused(r) => Moved {
@@ -602,10 +598,10 @@ pub fn close_span(
                 index: -1,
                 width,
             };
-            log_element(log, place, ask, start, 0);
+            let next = log_element(log, place, ask, start, 0);
             Moved {
                 answer: Put::Done,
-                place: place_at(place, pos, place.count + 1),
+                place: next,
             }
         }
         Put::Refused(r) => Moved {
@@ -646,13 +642,16 @@ pub fn next(frame: &[u8], log: &mut [u32], reader: Reader, ask: Ask) -> Reader
     if let Put::Refused(r) = answer {
         return refused_reader(place, r);
     }
-    let got = take_in(frame, log, place, ask);
+    let got = value_at(frame, log.len(), place, ask.width);
     match got {
-        Got::Value(value) => Reader {
-            answer: Put::Done,
-            place: passed(place, ask),
-            value,
-        },
+        Got::Value(value) => {
+            let on = log_element(log, place, ask, place.pos, value);
+            Reader {
+                answer: Put::Done,
+                place: on,
+                value,
+            }
+        }
         Got::Refused(r) => refused_reader(place, r),
     }
 }

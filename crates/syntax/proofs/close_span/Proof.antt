@@ -1,11 +1,11 @@
--- `syntax::close_span` meets its contract: a span that may be closed is logged, and the cursor stays; a refused one changes nothing.
+-- `syntax::close_span` meets its contract: a span that can be closed is logged, and the cursor stays; a refused one changes nothing.
 -- Assumes nothing.
-use mathlib.Core.Path.{_∙_, sym, ap, refl}
+use mathlib.Core.Path.{_∙_, sym, ap}
 use lib.ListN.{length}
 use denote.Ref.{now}
 use Rattle.refusal.specs.Refusals.{taken}
 use Rattle.bits.specs.Answers.{doneOf}
-use Rattle.syntax.specs.Reads.{standing}
+use Rattle.syntax.specs.Reads.{Standing, standing}
 use Rattle.syntax.proofs.Tests.{closes-free, room-words}
 use Rattle.syntax.proofs.Ends.{close-on, close-stops}
 use borrow.Author.Needs.{needs}
@@ -30,21 +30,15 @@ log-element-requires c κs =
     let r = room-words (length (now (a .log))) (a .place .count) (f .room-left) in
     omega arith
 
-add-place-at : tie.Need-add-place-at
-add-place-at c =
-    let a = c .before .before .before .before .before .before .before .before .before .before .args in
-    let f =
-    closes-free (length (now (a .frame))) (length (now (a .log))) (a .place) (a .start)
-    (sym (c .before .before .before .before .before .before .before .closable .ensures) ∙ ap doneOf (c .before .before .before .before .before .enum-told .given .1)) in
-    let r = room-words (length (now (a .log))) (a .place .count) (f .room-left) in
-    omega arith
-
 returns : tie.Need-returns
 returns c =
-    let a = c .before .before .before .before .before .before .before .before .before .before .before .args in
-    (λ i. record { outcome = taken tt; state = standing (c .place-at .ensures i) (c .before .before .before .before .log-element .ensures i) })
-    ∙ close-on (length (now (a .frame))) (standing (a .place) (now (a .log))) (a .name) (a .role) (a .start) (a .place .pos) refl
-    (sym (c .before .before .before .before .before .before .before .before .closable .ensures) ∙ ap doneOf (c .before .before .before .before .before .before .enum-told .given .1))
+    let a = c .before .before .before .before .before .before .before .before .before .args in
+    let f =
+    closes-free (length (now (a .frame))) (length (now (a .log))) (a .place) (a .start)
+    (sym (c .before .before .before .before .before .before .closable .ensures) ∙ ap doneOf (c .before .before .before .before .enum-told .given .1)) in
+    ap (λ (s : Standing). record { outcome = taken tt; state = s }) (c .before .before .log-element .ensures)
+    ∙ close-on (length (now (a .frame))) (standing (a .place) (now (a .log))) (a .name) (a .role) (a .start) _ (omega arith)
+    (sym (c .before .before .before .before .before .before .closable .ensures) ∙ ap doneOf (c .before .before .before .before .enum-told .given .1))
 
 returns-2 : tie.Need-returns-2
 returns-2 c =
@@ -60,8 +54,6 @@ close-span-spec =
     (λ c. search needs)
     sub-width
     log-element-requires
-    add-place-at
-    (λ c κs. search needs)
     (λ c. search needs)
     (λ c. search needs)
     returns

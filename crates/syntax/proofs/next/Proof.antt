@@ -3,12 +3,13 @@
 use mathlib.Core.Path.{refl, sym, ap, _∙_}
 use lib.ListN.{length}
 use denote.Ref.{now}
+use Rattle.refusal.specs.Refusals.{taken}
 use Rattle.bits.specs.declared.Put.{Put}
 use Rattle.bits.specs.Answers.{gotOf}
-use Rattle.syntax.specs.Reads.{standing, seenOf, shown, readerOf}
+use Rattle.syntax.specs.Reads.{Standing, standing, seenOf, shown, readerOf}
 use Rattle.syntax.proofs.Tests.{room-words}
 use Rattle.syntax.proofs.Ends.{next-on, next-stops, reader-is}
-use Rattle.syntax.proofs.ReadLaws.{read-taken, read-passed, read-left}
+use Rattle.syntax.proofs.ReadLaws.{read-told, read-moves, read-halts}
 use borrow.Author.Needs.{needs}
 use native.Mathlib.Omega.{arith}
 use Rattle.syntax.proofs.next.Statement.{statement}
@@ -23,32 +24,32 @@ returns c =
       q .ensures .1 .1 ∙ ap shown (sym (q .ensures .1 .0)),
     )
 
-passed-requires : tie.Need-passed-requires
-passed-requires c κs =
-    let a = c .before .before .before .before .before .before .before .before .before .before .before .before .args in
+log-element-requires : tie.Need-log-element-requires
+log-element-requires c κs =
+    let a = c .before .before .before .before .before .before .before .before .before .before .args in
     let t =
-    read-taken (now (a .frame)) (standing (a .reader .place) (now (a .log))) (a .ask) (c .before .got .given .0 .0)
-    (sym (c .before .before .before .before .before .take-in .ensures .0) ∙ ap gotOf (c .before .got .given .1)) in
+    read-told (now (a .frame)) (standing (a .reader .place) (now (a .log))) (a .ask) (c .before .before .got .given .0 .0)
+    (sym (c .before .before .before .before .value-at .ensures) ∙ ap gotOf (c .before .before .got .given .1)) in
     let r = room-words (length (now (a .log))) (a .reader .place .count) (t .free .room-left) in
-    omega (arith, t .free .short, t .free .within, r .0)
+    omega (arith, t .free .short, t .free .within, r .0, r .1)
 
 returns-2 : tie.Need-returns-2
 returns-2 c =
-    let a = c .before .before .before .before .before .before .before .before .before .before .before .before .before .args in (
-      read-passed (now (a .frame)) (standing (a .reader .place) (now (a .log))) (a .ask) (c .before .before .got .given .0 .0)
-          (sym (c .before .before .before .before .before .before .take-in .ensures .0) ∙ ap gotOf (c .before .before .got .given .1)) (c .passed .result) _ (c .passed .ensures) (c .before .before .before .before .before .before .take-in .ensures .1)
+    let a = c .before .before .before .before .before .before .before .before .before .before .before .before .before .args in
+    let v = c .before .before .before .before .before .got .given .0 .0 in (
+      ap (λ (s : Standing). record { outcome = taken v; state = s }) (c .before .before .log-element .ensures)
+          ∙ read-moves (now (a .frame)) (standing (a .reader .place) (now (a .log))) (a .ask) v (sym (c .before .before .before .before .before .before .before .value-at .ensures) ∙ ap gotOf (c .before .before .before .before .before .got .given .1))
           ∙ sym (next-on (now (a .frame)) (a .ask) (readerOf (a .reader) (now (a .log))) (ap (λ (p : Put). seenOf p (a .reader .value)) (c .before .before .before .before .before .before .before .before .enum-told .given .1))),
       refl,
     )
 
 returns-3 : tie.Need-returns-3
 returns-3 c =
-    let a = c .before .before .before .before .before .before .before .before .before .before .before .before .before .args in
+    let a = c .before .before .before .before .before .before .before .before .before .before .args in
     let q = c .refused-reader2 in (
       reader-is (q .result) _ (q .ensures .0) (q .ensures .1 .0)
-          ∙ read-left (now (a .frame)) (standing (a .reader .place) (now (a .log))) (a .ask)
-          (sym (c .before .before .before .before .before .before .take-in .ensures .0) ∙ ap gotOf (c .before .before .got2 .given .1)) _ (c .before .before .before .before .before .before .take-in .ensures .1)
-          ∙ sym (next-on (now (a .frame)) (a .ask) (readerOf (a .reader) (now (a .log))) (ap (λ (p : Put). seenOf p (a .reader .value)) (c .before .before .before .before .before .before .before .before .enum-told .given .1))),
+          ∙ read-halts (now (a .frame)) (standing (a .reader .place) (now (a .log))) (a .ask) (sym (c .before .before .before .before .value-at .ensures) ∙ ap gotOf (c .before .before .got2 .given .1))
+          ∙ sym (next-on (now (a .frame)) (a .ask) (readerOf (a .reader) (now (a .log))) (ap (λ (p : Put). seenOf p (a .reader .value)) (c .before .before .before .before .before .enum-told .given .1))),
       q .ensures .1 .1 ∙ ap shown (sym (q .ensures .1 .0)),
     )
 
@@ -62,10 +63,9 @@ next-spec =
     (λ c. search needs)
     (λ c κs. search needs)
     (λ c. search needs)
-    passed-requires
+    log-element-requires
     (λ c. search needs)
     (λ c κs. search needs)
     (λ c. search needs)
     returns-2
-    (λ c. search needs)
     returns-3)

@@ -1,11 +1,11 @@
--- `syntax::span` meets its contract: a span that fits is logged and passed, a refused one changes nothing.
+-- `syntax::span` meets its contract: a span that fits is logged, a refused one changes nothing.
 -- Assumes nothing.
 use mathlib.Core.Path.{_∙_, sym, ap}
 use lib.ListN.{length}
 use denote.Ref.{now}
 use Rattle.refusal.specs.Refusals.{taken}
 use Rattle.bits.specs.Answers.{doneOf}
-use Rattle.syntax.specs.Reads.{standing}
+use Rattle.syntax.specs.Reads.{Standing, standing}
 use Rattle.syntax.proofs.Tests.{fits-free, room-words}
 use Rattle.syntax.proofs.Ends.{span-on, span-stops}
 use borrow.Author.Needs.{needs}
@@ -22,21 +22,12 @@ log-element-requires c κs =
     let r = room-words (length (now (a .log))) (a .place .count) (f .room-left) in
     omega arith
 
-passed-requires : tie.Need-passed-requires
-passed-requires c κs =
-    let a = c .before .before .before .before .before .before .before .before .before .args in
-    let f =
-    fits-free (length (now (a .frame))) (length (now (a .log))) (a .place) (a .width)
-    (sym (c .before .before .before .before .before .before .fit .ensures) ∙ ap doneOf (c .before .before .before .before .enum-told .given .1)) in
-    let r = room-words (length (now (a .log))) (a .place .count) (f .room-left) in
-    omega arith
-
 returns : tie.Need-returns
 returns c =
-    let a = c .before .before .before .before .before .before .before .before .before .before .args in
-    (λ i. record { outcome = taken tt; state = standing (c .passed .ensures i) (c .before .before .before .log-element .ensures i) })
+    let a = c .before .before .before .before .before .before .before .before .before .args in
+    ap (λ (s : Standing). record { outcome = taken tt; state = s }) (c .before .before .log-element .ensures)
     ∙ span-on (length (now (a .frame))) (standing (a .place) (now (a .log))) (a .name) (a .role) (a .width)
-    (sym (c .before .before .before .before .before .before .before .fit .ensures) ∙ ap doneOf (c .before .before .before .before .before .enum-told .given .1))
+    (sym (c .before .before .before .before .before .before .fit .ensures) ∙ ap doneOf (c .before .before .before .before .enum-told .given .1))
 
 returns-2 : tie.Need-returns-2
 returns-2 c =
@@ -51,7 +42,6 @@ span-spec =
     (λ c κs. search needs)
     (λ c. search needs)
     log-element-requires
-    passed-requires
     (λ c. search needs)
     (λ c. search needs)
     returns
