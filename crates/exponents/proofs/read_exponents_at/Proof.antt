@@ -93,7 +93,7 @@ module _ {M : Type 1} (𝓤 : URA M) (H : Heap 𝓤) (A : Atoms 𝓤) (W : Given
   abbrev Said : Exponents → List ℕ → Type 0
   Said r zs = exponentsOf r zs ≡ readExponentsOf (now (d .bytes)) (standing (d .place) (l .now)) slot strategy (start .0) (end .0)
 
-  -- the machine values of the result
+  -- the machine value of the result
   abbrev vr : Exponents → Val
   vr r = LL.val R.the-type R′.the-laws r
 

@@ -77,36 +77,36 @@ module _ {M : Type 1} (𝓤 : URA M) (H : Heap 𝓤) (A : Atoms 𝓤) (mem : Mem
   Callee = tripleOf 𝓤 H A step.signature (step.spec 𝓤 H A mem run)
 
 module _ {M : Type 1} (𝓤 : URA M) (H : Heap 𝓤) (A : Atoms 𝓤) (W : Given 𝓤 H A) (mem : Memory → SProp 𝓤) (run : Routine → Fun 𝓤) (κ κ′ κ″ : Lft) (q q′ q″ : Share) (bounds : AllOutlive 3 (this.signature .outlives) (κ, (κ′, (κ″, tt))))
-    (c : RefT Cursor) (y : RefT (List ℕ)) (start end : Bin) (groups : Groups) where
+    (c : RefT Cursor) (bap : RefT (List ℕ)) (start end : Bin) (groups : Groups) where
   -- the cursor as it is passed
   abbrev d : Cursor
   d = c .now
 
-  -- the machine values of the reference to it
+  -- the machine value of the reference to it
   abbrev vc : Val
   vc = vptr (c .ptr .0) (c .ptr .1)
 
   -- what the covered function says of its result
   abbrev Said : Walked → Type 0
-  Said r = walkedOf r ≡ walked-by (now (d .bytes)) (d .place) (now y) (start .0) (end .0) groups
+  Said r = walkedOf r ≡ walked-by (now (d .bytes)) (d .place) (now bap) (start .0) (end .0) groups
 
-  -- the machine values of the result
+  -- the machine value of the result
   abbrev vr : Walked → Val
   vr r = LL.val R.the-type R′.the-laws r
 
   -- the parameters, and their machine values
   abbrev x : RefT Cursor × (RefT (List ℕ) × (Bin × (Bin × (Groups × Unit {0}))))
-  x = (c, (y, (start, (end, (groups, tt)))))
+  x = (c, (bap, (start, (end, (groups, tt)))))
 
   abbrev at : List Val × (List Val × (List Val × (List Val × (List Val × Unit {0}))))
-  at = (vc ∷ [], (vptr (y .ptr .0) (y .ptr .1) ∷ [], (LL.val N.the-type N′.the-laws start ∷ [], (LL.val N.the-type N′.the-laws end ∷ [], (LL.val Q.the-type Q′.the-laws groups ∷ [], tt)))))
+  at = (vc ∷ [], (vptr (bap .ptr .0) (bap .ptr .1) ∷ [], (LL.val N.the-type N′.the-laws start ∷ [], (LL.val N.the-type N′.the-laws end ∷ [], (LL.val Q.the-type Q′.the-laws groups ∷ [], tt)))))
 
   -- the same of the call
   abbrev args : RefT (List ℕ) × (Place × (RefT (List ℕ) × (Bin × (Bin × (Groups × Unit {0})))))
-  args = (d .bytes, (d .place, (y, (start, (end, (groups, tt))))))
+  args = (d .bytes, (d .place, (bap, (start, (end, (groups, tt))))))
 
   abbrev passed : Vals step.signature (κ′, (κ″, tt))
-  passed = (machBytes κ′ d ∷ [], (P′.lowered (d .place) ∷ [], (vptr (y .ptr .0) (y .ptr .1) ∷ [], (LL.val N.the-type N′.the-laws start ∷ [], (LL.val N.the-type N′.the-laws end ∷ [], (LL.val Q.the-type Q′.the-laws groups ∷ [], tt))))))
+  passed = (machBytes κ′ d ∷ [], (P′.lowered (d .place) ∷ [], (vptr (bap .ptr .0) (bap .ptr .1) ∷ [], (LL.val N.the-type N′.the-laws start ∷ [], (LL.val N.the-type N′.the-laws end ∷ [], (LL.val Q.the-type Q′.the-laws groups ∷ [], tt))))))
 
   abbrev to : Callee 𝓤 H A mem run .Ghost
   to = (((κ′, (κ″, tt)), (q′, (q″, tt)), tt, args, passed), tt)
@@ -116,7 +116,7 @@ module _ {M : Type 1} (𝓤 : URA M) (H : Heap 𝓤) (A : Atoms 𝓤) (W : Given
 
   -- what the other parameters own
   abbrev Rest : Fml
-  Rest = owns (ShrRef (named 2) κ″ (Array u8 tt 256) ∷ N.the-row ∷ N.the-row ∷ Q.the-row ∷ []) (y, (start, (end, (groups, tt)))) (vptr (y .ptr .0) (y .ptr .1) ∷ [], (LL.val N.the-type N′.the-laws start ∷ [], (LL.val N.the-type N′.the-laws end ∷ [], (LL.val Q.the-type Q′.the-laws groups ∷ [], tt))))
+  Rest = owns (ShrRef (named 2) κ″ (Array u8 tt 256) ∷ N.the-row ∷ N.the-row ∷ Q.the-row ∷ []) (bap, (start, (end, (groups, tt)))) (vptr (bap .ptr .0) (bap .ptr .1) ∷ [], (LL.val N.the-type N′.the-laws start ∷ [], (LL.val N.the-type N′.the-laws end ∷ [], (LL.val Q.the-type Q′.the-laws groups ∷ [], tt))))
 
   -- with what the cursor owns, it is what the call asks
   asked : ent 𝓤 (onEntry 𝓤 H A step.signature (κ′, (κ″, tt)) (q′, (q″, tt)) args passed) (Callee 𝓤 H A mem run .pre to)
@@ -143,9 +143,9 @@ module _ {M : Type 1} (𝓤 : URA M) (H : Heap 𝓤) (A : Atoms 𝓤) (W : Given
       nothing ! $ nothing ! $ fjoin ! $ nothing ! $ fjoin ! $ nothing ! $ fjoin ! $ nothing ! $ fjoin ! $ move ! (1 ∷ 0 ∷ []) $ fjoin ! $ frame ! $ done !
 
   module _ (C : Calls 𝓤 H) (Λ : Loops 𝓤 H) (fm : FmC 𝓤 H (W .laws) C) (known : Triple 𝓤 (C #walks·conventional) (Callee 𝓤 H A mem run)) where
-    walk : Holds (hasTy N′.mir (LL.val N.the-type N′.the-laws start)) × WT (LL.val N.the-type N′.the-laws start) → Holds (hasTy N′.mir (LL.val N.the-type N′.the-laws end)) × WT (LL.val N.the-type N′.the-laws end) → Holds (hasTy Q′.mir (LL.val Q.the-type Q′.the-laws groups)) × WT (LL.val Q.the-type Q′.the-laws groups) → ent 𝓤 (onEntry 𝓤 H A this.signature (κ, (κ′, (κ″, tt))) (q, (q′, (q″, tt))) x at) (WpFn 𝓤 H C Λ code.function (vc ∷ vptr (y .ptr .0) (y .ptr .1) ∷ LL.val N.the-type N′.the-laws start ∷ LL.val N.the-type N′.the-laws end ∷ LL.val Q.the-type Q′.the-laws groups ∷ []) Post)
+    walk : Holds (hasTy N′.mir (LL.val N.the-type N′.the-laws start)) × WT (LL.val N.the-type N′.the-laws start) → Holds (hasTy N′.mir (LL.val N.the-type N′.the-laws end)) × WT (LL.val N.the-type N′.the-laws end) → Holds (hasTy Q′.mir (LL.val Q.the-type Q′.the-laws groups)) × WT (LL.val Q.the-type Q′.the-laws groups) → ent 𝓤 (onEntry 𝓤 H A this.signature (κ, (κ′, (κ″, tt))) (q, (q′, (q″, tt))) x at) (WpFn 𝓤 H C Λ code.function (vc ∷ vptr (bap .ptr .0) (bap .ptr .1) ∷ LL.val N.the-type N′.the-laws start ∷ LL.val N.the-type N′.the-laws end ∷ LL.val Q.the-type Q′.the-laws groups ∷ []) Post)
     walk start-typed end-typed groups-typed =
-        qed W ((‵ (flft κ q) ⊛ ‵ (flft κ′ q′) ⊛ ‵ (flft κ″ q″) ⊛ ‵ ftrue) ∷ ‵ (owns (MutRef (named 0) κ (B κ′) ∷ ShrRef (named 2) κ″ (Array u8 tt 256) ∷ N.the-row ∷ N.the-row ∷ Q.the-row ∷ []) x at) ∷ []) ∵ enter ! C Λ code.function (vc ∷ vptr (y .ptr .0) (y .ptr .1) ∷ LL.val N.the-type N′.the-laws start ∷ LL.val N.the-type N′.the-laws end ∷ LL.val Q.the-type Q′.the-laws groups ∷ []) _ $
+        qed W ((‵ (flft κ q) ⊛ ‵ (flft κ′ q′) ⊛ ‵ (flft κ″ q″) ⊛ ‵ ftrue) ∷ ‵ (owns (MutRef (named 0) κ (B κ′) ∷ ShrRef (named 2) κ″ (Array u8 tt 256) ∷ N.the-row ∷ N.the-row ∷ Q.the-row ∷ []) x at) ∷ []) ∵ enter ! C Λ code.function (vc ∷ vptr (bap .ptr .0) (bap .ptr .1) ∷ LL.val N.the-type N′.the-laws start ∷ LL.val N.the-type N′.the-laws end ∷ LL.val Q.the-type Q′.the-laws groups ∷ []) _ $
         alloc1 ! (λ l₀. alloc1 ! (λ l₁. alloc1 ! (λ l₂. alloc1 ! (λ l₃. alloc1 ! (λ l₄. alloc1 ! (λ l₅. alloc1 ! (λ l₆. alloc1 ! (λ l₇. alloc1 ! (λ l₈. alloc0 ! $ params1 ! $
         pass1 ! (init ! 14 refl (tt, tt)) $ pass1 ! (init ! 12 refl (tt, tt)) $ pass1 ! (init ! 10 refl start-typed) $ pass1 ! (init ! 8 refl end-typed) $ pass1 ! (init ! 6 refl groups-typed) $ pass0 ! $
         move ! (19 ∷ []) $ fsplit ! $ move ! (20 ∷ []) $ split ! $ move ! (2 ∷ 0 ∷ []) $ opened ! tt κ κ′ q c (λ wt.

@@ -79,7 +79,7 @@ module _ {M : Type 1} (𝓤 : URA M) (H : Heap 𝓤) (A : Atoms 𝓤) (mem : Mem
   Callee = tripleOf 𝓤 H A step.signature (step.spec 𝓤 H A mem run)
 
 module _ {M : Type 1} (𝓤 : URA M) (H : Heap 𝓤) (A : Atoms 𝓤) (W : Given 𝓤 H A) (mem : Memory → SProp 𝓤) (run : Routine → Fun 𝓤) (κ κ′ κ″ : Lft) (q q′ q″ : Share) (bounds : AllOutlive 3 (this.signature .outlives) (κ, (κ′, (κ″, tt))))
-    (c : RefT Cursor) (l : RefT (List ℕ)) (k : ℕ) (role : Role) (n : ℕ) where
+    (c : RefT Cursor) (l : RefT (List ℕ)) (name : ℕ) (role : Role) (start : ℕ) where
   -- the cursor as it is passed
   abbrev d : Cursor
   d = c .now
@@ -93,7 +93,7 @@ module _ {M : Type 1} (𝓤 : URA M) (H : Heap 𝓤) (A : Atoms 𝓤) (W : Given
 
   -- what the covered function says of its result and of the log
   abbrev Said : Moved → List ℕ → Type 0
-  Said r zs = movedOf r zs ≡ closeOf (length (now (d .bytes))) (standing (d .place) (l .now)) k role n
+  Said r zs = movedOf r zs ≡ closeOf (length (now (d .bytes))) (standing (d .place) (l .now)) name role start
 
   -- the machine values of the result and of the answer in it
   abbrev vr : Moved → Val
@@ -104,17 +104,17 @@ module _ {M : Type 1} (𝓤 : URA M) (H : Heap 𝓤) (A : Atoms 𝓤) (W : Given
 
   -- the parameters, and their machine values
   abbrev x : RefT Cursor × (RefT (List ℕ) × (ℕ × (Role × (ℕ × Unit {0}))))
-  x = (c, (l, (k, (role, (n, tt)))))
+  x = (c, (l, (name, (role, (start, tt)))))
 
   abbrev at : List Val × (List Val × (List Val × (List Val × (List Val × Unit {0}))))
-  at = (vc ∷ [], (vl ∷ [], (vint w32 k ∷ [], (EL.val Q.the-type Q′.the-laws role ∷ [], (vint w64 n ∷ [], tt)))))
+  at = (vc ∷ [], (vl ∷ [], (vint w32 name ∷ [], (EL.val Q.the-type Q′.the-laws role ∷ [], (vint w64 start ∷ [], tt)))))
 
   -- the same of the call
   abbrev args : RefT (List ℕ) × (RefT (List ℕ) × (Place × (ℕ × (Role × (ℕ × Unit {0})))))
-  args = (d .bytes, (l, (d .place, (k, (role, (n, tt))))))
+  args = (d .bytes, (l, (d .place, (name, (role, (start, tt))))))
 
   abbrev passed : Vals step.signature (κ′, (κ″, tt))
-  passed = (machBytes κ′ d ∷ [], (vl ∷ [], (P′.lowered (d .place) ∷ [], (vint w32 k ∷ [], (EL.val Q.the-type Q′.the-laws role ∷ [], (vint w64 n ∷ [], tt))))))
+  passed = (machBytes κ′ d ∷ [], (vl ∷ [], (P′.lowered (d .place) ∷ [], (vint w32 name ∷ [], (EL.val Q.the-type Q′.the-laws role ∷ [], (vint w64 start ∷ [], tt))))))
 
   abbrev to : Callee 𝓤 H A mem run .Ghost
   to = (((κ′, (κ″, tt)), (q′, (q″, tt)), tt, args, passed), tt)
@@ -124,7 +124,7 @@ module _ {M : Type 1} (𝓤 : URA M) (H : Heap 𝓤) (A : Atoms 𝓤) (W : Given
 
   -- what the log and the other parameters own
   abbrev Rest : Fml
-  Rest = owns (MutSlice (named 2) κ″ u32 ∷ u32 ∷ Q.the-row ∷ usize ∷ []) (l, (k, (role, (n, tt)))) (vl ∷ [], (vint w32 k ∷ [], (EL.val Q.the-type Q′.the-laws role ∷ [], (vint w64 n ∷ [], tt))))
+  Rest = owns (MutSlice (named 2) κ″ u32 ∷ u32 ∷ Q.the-row ∷ usize ∷ []) (l, (name, (role, (start, tt)))) (vl ∷ [], (vint w32 name ∷ [], (EL.val Q.the-type Q′.the-laws role ∷ [], (vint w64 start ∷ [], tt))))
 
   -- with what the cursor owns, it is what the call asks
   asked : ent 𝓤 (onEntry 𝓤 H A step.signature (κ′, (κ″, tt)) (q′, (q″, tt)) args passed) (Callee 𝓤 H A mem run .pre to)
@@ -148,11 +148,11 @@ module _ {M : Type 1} (𝓤 : URA M) (H : Heap 𝓤) (A : Atoms 𝓤) (W : Given
       nothing ! $ nothing ! $ fjoin ! $ nothing ! $ fjoin ! $ nothing ! $ fjoin ! $ move ! (3 ∷ 0 ∷ []) $ fjoin ! $ move ! (1 ∷ 0 ∷ []) $ fjoin ! $ frame ! $ done !
 
   module _ (C : Calls 𝓤 H) (Λ : Loops 𝓤 H) (fm : FmC 𝓤 H (W .laws) C) (known : Triple 𝓤 (C #syntax·close-span) (Callee 𝓤 H A mem run)) where
-    walk : Room u32 (length (l .now)) → k < 2 ^ 32 → Holds (hasTy Q′.mir (EL.val Q.the-type Q′.the-laws role)) × WT (EL.val Q.the-type Q′.the-laws role) → n < 2 ^ 64 → ent 𝓤 (onEntry 𝓤 H A this.signature (κ, (κ′, (κ″, tt))) (q, (q′, (q″, tt))) x at) (WpFn 𝓤 H C Λ code.function (vc ∷ vl ∷ vint w32 k ∷ EL.val Q.the-type Q′.the-laws role ∷ vint w64 n ∷ []) Post)
-    walk room k-fits role-typed n-fits =
-        qed W ((‵ (flft κ q) ⊛ ‵ (flft κ′ q′) ⊛ ‵ (flft κ″ q″) ⊛ ‵ ftrue) ∷ ‵ (owns (MutRef (named 0) κ (B κ′) ∷ MutSlice (named 2) κ″ u32 ∷ u32 ∷ Q.the-row ∷ usize ∷ []) x at) ∷ []) ∵ enter ! C Λ code.function (vc ∷ vl ∷ vint w32 k ∷ EL.val Q.the-type Q′.the-laws role ∷ vint w64 n ∷ []) _ $
+    walk : Room u32 (length (l .now)) → name < 2 ^ 32 → Holds (hasTy Q′.mir (EL.val Q.the-type Q′.the-laws role)) × WT (EL.val Q.the-type Q′.the-laws role) → start < 2 ^ 64 → ent 𝓤 (onEntry 𝓤 H A this.signature (κ, (κ′, (κ″, tt))) (q, (q′, (q″, tt))) x at) (WpFn 𝓤 H C Λ code.function (vc ∷ vl ∷ vint w32 name ∷ EL.val Q.the-type Q′.the-laws role ∷ vint w64 start ∷ []) Post)
+    walk room name-fits role-typed start-fits =
+        qed W ((‵ (flft κ q) ⊛ ‵ (flft κ′ q′) ⊛ ‵ (flft κ″ q″) ⊛ ‵ ftrue) ∷ ‵ (owns (MutRef (named 0) κ (B κ′) ∷ MutSlice (named 2) κ″ u32 ∷ u32 ∷ Q.the-row ∷ usize ∷ []) x at) ∷ []) ∵ enter ! C Λ code.function (vc ∷ vl ∷ vint w32 name ∷ EL.val Q.the-type Q′.the-laws role ∷ vint w64 start ∷ []) _ $
         alloc1 ! (λ l₀. alloc1 ! (λ l₁. alloc1 ! (λ l₂. alloc1 ! (λ l₃. alloc1 ! (λ l₄. alloc1 ! (λ l₅. alloc1 ! (λ l₆. alloc1 ! (λ l₇. alloc1 ! (λ l₈. alloc1 ! (λ l₉. alloc1 ! (λ l₁₀. alloc0 ! $ params1 ! $
-        pass1 ! (init ! 18 refl (tt, tt)) $ pass1 ! (init ! 16 refl (tt, (tt, (record { fits = room .0 }, tt)))) $ pass1 ! (init ! 14 refl (tt, record { fits = k-fits })) $ pass1 ! (init ! 12 refl role-typed) $ pass1 ! (init ! 10 refl (tt, record { fits = n-fits })) $ pass0 ! $
+        pass1 ! (init ! 18 refl (tt, tt)) $ pass1 ! (init ! 16 refl (tt, (tt, (record { fits = room .0 }, tt)))) $ pass1 ! (init ! 14 refl (tt, record { fits = name-fits })) $ pass1 ! (init ! 12 refl role-typed) $ pass1 ! (init ! 10 refl (tt, record { fits = start-fits })) $ pass0 ! $
         move ! (23 ∷ []) $ fsplit ! $ move ! (24 ∷ []) $ split ! $ move ! (2 ∷ 0 ∷ []) $ opened ! tt κ κ′ q c (λ wt.
         -- [the cell; what the cursor owns; the open loan; obs; auth; the tokens; the rest; _10; …; _1; …; room for _0; …]
         assigns ! (of-opd ! (load ! (from ! (hop ! (look ! 25 refl) (fld ! refl (stop !)))) (look-in ! 0 (sub ! 0 refl (whole !))))) (from ! (stop !)) (init ! 13 refl (tt, wt .1 .0)) $

@@ -75,18 +75,18 @@ module _ {M : Type 1} (𝓤 : URA M) (H : Heap 𝓤) (A : Atoms 𝓤) (mem : Mem
   Callee = tripleOf 𝓤 H A step.signature (step.spec 𝓤 H A mem run)
 
 module _ {M : Type 1} (𝓤 : URA M) (H : Heap 𝓤) (A : Atoms 𝓤) (W : Given 𝓤 H A) (mem : Memory → SProp 𝓤) (run : Routine → Fun 𝓤) (κ κ′ : Lft) (q q′ : Share) (bounds : AllOutlive 2 (this.signature .outlives) (κ, (κ′, tt)))
-    (c : RefT Cursor) (n : ℕ) where
+    (c : RefT Cursor) (width : ℕ) where
   -- the cursor as it is passed
   abbrev d : Cursor
   d = c .now
 
-  -- the machine values of the reference to it
+  -- the machine value of the reference to it
   abbrev vc : Val
   vc = vptr (c .ptr .0) (c .ptr .1)
 
   -- what the covered function says of its result
   abbrev Said : Reading → Type 0
-  Said r = rawReadingOf r ≡ rawOf (now (d .bytes)) (d .place) n
+  Said r = rawReadingOf r ≡ rawOf (now (d .bytes)) (d .place) width
 
   -- the machine values of the result and of the answer in it
   abbrev vr : Reading → Val
@@ -97,17 +97,17 @@ module _ {M : Type 1} (𝓤 : URA M) (H : Heap 𝓤) (A : Atoms 𝓤) (W : Given
 
   -- the parameters, and their machine values
   abbrev x : RefT Cursor × (ℕ × Unit {0})
-  x = (c, (n, tt))
+  x = (c, (width, tt))
 
   abbrev at : List Val × (List Val × Unit {0})
-  at = (vc ∷ [], (vint w64 n ∷ [], tt))
+  at = (vc ∷ [], (vint w64 width ∷ [], tt))
 
   -- the same of the call
   abbrev args : RefT (List ℕ) × (Place × (ℕ × Unit {0}))
-  args = (d .bytes, (d .place, (n, tt)))
+  args = (d .bytes, (d .place, (width, tt)))
 
   abbrev passed : Vals step.signature (κ′, tt)
-  passed = (machBytes κ′ d ∷ [], (P′.lowered (d .place) ∷ [], (vint w64 n ∷ [], tt)))
+  passed = (machBytes κ′ d ∷ [], (P′.lowered (d .place) ∷ [], (vint w64 width ∷ [], tt)))
 
   abbrev to : Callee 𝓤 H A mem run .Ghost
   to = (((κ′, tt), (q′, tt), tt, args, passed), tt)
@@ -117,7 +117,7 @@ module _ {M : Type 1} (𝓤 : URA M) (H : Heap 𝓤) (A : Atoms 𝓤) (W : Given
 
   -- what the other parameter owns
   abbrev Rest : Fml
-  Rest = owns (usize ∷ []) (n, tt) (vint w64 n ∷ [], tt)
+  Rest = owns (usize ∷ []) (width, tt) (vint w64 width ∷ [], tt)
 
   -- with what the cursor owns, it is what the call asks
   asked : ent 𝓤 (onEntry 𝓤 H A step.signature (κ′, tt) (q′, tt) args passed) (Callee 𝓤 H A mem run .pre to)
@@ -144,11 +144,11 @@ module _ {M : Type 1} (𝓤 : URA M) (H : Heap 𝓤) (A : Atoms 𝓤) (W : Given
       nothing ! $ nothing ! $ fjoin ! $ move ! (1 ∷ 0 ∷ []) $ fjoin ! $ frame ! $ done !
 
   module _ (C : Calls 𝓤 H) (Λ : Loops 𝓤 H) (fm : FmC 𝓤 H (W .laws) C) (known : Triple 𝓤 (C #syntax·read-raw) (Callee 𝓤 H A mem run)) where
-    walk : n < 2 ^ 64 → ent 𝓤 (onEntry 𝓤 H A this.signature (κ, (κ′, tt)) (q, (q′, tt)) x at) (WpFn 𝓤 H C Λ code.function (vc ∷ vint w64 n ∷ []) Post)
-    walk n-fits =
-        qed W ((‵ (flft κ q) ⊛ ‵ (flft κ′ q′) ⊛ ‵ ftrue) ∷ ‵ (owns (MutRef (named 0) κ (B κ′) ∷ usize ∷ []) x at) ∷ []) ∵ enter ! C Λ code.function (vc ∷ vint w64 n ∷ []) _ $
+    walk : width < 2 ^ 64 → ent 𝓤 (onEntry 𝓤 H A this.signature (κ, (κ′, tt)) (q, (q′, tt)) x at) (WpFn 𝓤 H C Λ code.function (vc ∷ vint w64 width ∷ []) Post)
+    walk width-fits =
+        qed W ((‵ (flft κ q) ⊛ ‵ (flft κ′ q′) ⊛ ‵ ftrue) ∷ ‵ (owns (MutRef (named 0) κ (B κ′) ∷ usize ∷ []) x at) ∷ []) ∵ enter ! C Λ code.function (vc ∷ vint w64 width ∷ []) _ $
         alloc1 ! (λ l₀. alloc1 ! (λ l₁. alloc1 ! (λ l₂. alloc1 ! (λ l₃. alloc1 ! (λ l₄. alloc1 ! (λ l₅. alloc0 ! $ params1 ! $
-        pass1 ! (init ! 8 refl (tt, tt)) $ pass1 ! (init ! 6 refl (tt, record { fits = n-fits })) $ pass0 ! $
+        pass1 ! (init ! 8 refl (tt, tt)) $ pass1 ! (init ! 6 refl (tt, record { fits = width-fits })) $ pass0 ! $
         move ! (13 ∷ []) $ fsplit ! $ move ! (14 ∷ []) $ split ! $ move ! (2 ∷ 0 ∷ []) $ opened ! tt κ κ′ q c (λ wt.
         -- [the cell; what the cursor owns; the open loan; obs; auth; the tokens; the rest; _5; …; _1; …; room for _0; …]
         assigns ! (of-opd ! (load ! (from ! (hop ! (look ! 15 refl) (fld ! refl (stop !)))) (look-in ! 0 (sub ! 0 refl (whole !))))) (from ! (stop !)) (init ! 9 refl (tt, wt .1 .0)) $

@@ -78,7 +78,7 @@ module _ {M : Type 1} (𝓤 : URA M) (H : Heap 𝓤) (A : Atoms 𝓤) (mem : Mem
   Callee = tripleOf 𝓤 H A step.signature (step.spec 𝓤 H A mem run)
 
 module _ {M : Type 1} (𝓤 : URA M) (H : Heap 𝓤) (A : Atoms 𝓤) (W : Given 𝓤 H A) (mem : Memory → SProp 𝓤) (run : Routine → Fun 𝓤) (κ κ′ κ″ : Lft) (q q′ q″ : Share) (bounds : AllOutlive 3 (this.signature .outlives) (κ, (κ′, (κ″, tt))))
-    (c : RefT Cursor) (l : RefT (List ℕ)) (a : Ask) where
+    (c : RefT Cursor) (l : RefT (List ℕ)) (ask : Ask) where
   -- the cursor as it is passed
   abbrev d : Cursor
   d = c .now
@@ -92,7 +92,7 @@ module _ {M : Type 1} (𝓤 : URA M) (H : Heap 𝓤) (A : Atoms 𝓤) (W : Given
 
   -- what the covered function says of its result and of the log
   abbrev Said : Reading → List ℕ → Type 0
-  Said r zs = readingOf r zs ≡ readOf (now (d .bytes)) (standing (d .place) (l .now)) a
+  Said r zs = readingOf r zs ≡ readOf (now (d .bytes)) (standing (d .place) (l .now)) ask
 
   -- the machine values of the result and of the answer in it
   abbrev vr : Reading → Val
@@ -103,17 +103,17 @@ module _ {M : Type 1} (𝓤 : URA M) (H : Heap 𝓤) (A : Atoms 𝓤) (W : Given
 
   -- the parameters, and their machine values
   abbrev x : RefT Cursor × (RefT (List ℕ) × (Ask × Unit {0}))
-  x = (c, (l, (a, tt)))
+  x = (c, (l, (ask, tt)))
 
   abbrev at : List Val × (List Val × (List Val × Unit {0}))
-  at = (vc ∷ [], (vl ∷ [], (LL.val Q.the-type Q′.the-laws a ∷ [], tt)))
+  at = (vc ∷ [], (vl ∷ [], (LL.val Q.the-type Q′.the-laws ask ∷ [], tt)))
 
   -- the same of the call
   abbrev args : RefT (List ℕ) × (RefT (List ℕ) × (Place × (Ask × Unit {0})))
-  args = (d .bytes, (l, (d .place, (a, tt))))
+  args = (d .bytes, (l, (d .place, (ask, tt))))
 
   abbrev passed : Vals step.signature (κ′, (κ″, tt))
-  passed = (machBytes κ′ d ∷ [], (vl ∷ [], (P′.lowered (d .place) ∷ [], (LL.val Q.the-type Q′.the-laws a ∷ [], tt))))
+  passed = (machBytes κ′ d ∷ [], (vl ∷ [], (P′.lowered (d .place) ∷ [], (LL.val Q.the-type Q′.the-laws ask ∷ [], tt))))
 
   abbrev to : Callee 𝓤 H A mem run .Ghost
   to = (((κ′, (κ″, tt)), (q′, (q″, tt)), tt, args, passed), tt)
@@ -123,7 +123,7 @@ module _ {M : Type 1} (𝓤 : URA M) (H : Heap 𝓤) (A : Atoms 𝓤) (W : Given
 
   -- what the log and the other parameter own
   abbrev Rest : Fml
-  Rest = owns (MutSlice (named 2) κ″ u32 ∷ Q.the-row ∷ []) (l, (a, tt)) (vl ∷ [], (LL.val Q.the-type Q′.the-laws a ∷ [], tt))
+  Rest = owns (MutSlice (named 2) κ″ u32 ∷ Q.the-row ∷ []) (l, (ask, tt)) (vl ∷ [], (LL.val Q.the-type Q′.the-laws ask ∷ [], tt))
 
   -- with what the cursor owns, it is what the call asks
   asked : ent 𝓤 (onEntry 𝓤 H A step.signature (κ′, (κ″, tt)) (q′, (q″, tt)) args passed) (Callee 𝓤 H A mem run .pre to)
@@ -147,11 +147,11 @@ module _ {M : Type 1} (𝓤 : URA M) (H : Heap 𝓤) (A : Atoms 𝓤) (W : Given
       nothing ! $ nothing ! $ fjoin ! $ move ! (3 ∷ 0 ∷ []) $ fjoin ! $ move ! (1 ∷ 0 ∷ []) $ fjoin ! $ frame ! $ done !
 
   module _ (C : Calls 𝓤 H) (Λ : Loops 𝓤 H) (fm : FmC 𝓤 H (W .laws) C) (known : Triple 𝓤 (C #syntax·read-element) (Callee 𝓤 H A mem run)) where
-    walk : Room u32 (length (l .now)) → Holds (hasTy Q′.mir (LL.val Q.the-type Q′.the-laws a)) × WT (LL.val Q.the-type Q′.the-laws a) → ent 𝓤 (onEntry 𝓤 H A this.signature (κ, (κ′, (κ″, tt))) (q, (q′, (q″, tt))) x at) (WpFn 𝓤 H C Λ code.function (vc ∷ vl ∷ LL.val Q.the-type Q′.the-laws a ∷ []) Post)
-    walk room a-typed =
-        qed W ((‵ (flft κ q) ⊛ ‵ (flft κ′ q′) ⊛ ‵ (flft κ″ q″) ⊛ ‵ ftrue) ∷ ‵ (owns (MutRef (named 0) κ (B κ′) ∷ MutSlice (named 2) κ″ u32 ∷ Q.the-row ∷ []) x at) ∷ []) ∵ enter ! C Λ code.function (vc ∷ vl ∷ LL.val Q.the-type Q′.the-laws a ∷ []) _ $
+    walk : Room u32 (length (l .now)) → Holds (hasTy Q′.mir (LL.val Q.the-type Q′.the-laws ask)) × WT (LL.val Q.the-type Q′.the-laws ask) → ent 𝓤 (onEntry 𝓤 H A this.signature (κ, (κ′, (κ″, tt))) (q, (q′, (q″, tt))) x at) (WpFn 𝓤 H C Λ code.function (vc ∷ vl ∷ LL.val Q.the-type Q′.the-laws ask ∷ []) Post)
+    walk room ask-typed =
+        qed W ((‵ (flft κ q) ⊛ ‵ (flft κ′ q′) ⊛ ‵ (flft κ″ q″) ⊛ ‵ ftrue) ∷ ‵ (owns (MutRef (named 0) κ (B κ′) ∷ MutSlice (named 2) κ″ u32 ∷ Q.the-row ∷ []) x at) ∷ []) ∵ enter ! C Λ code.function (vc ∷ vl ∷ LL.val Q.the-type Q′.the-laws ask ∷ []) _ $
         alloc1 ! (λ l₀. alloc1 ! (λ l₁. alloc1 ! (λ l₂. alloc1 ! (λ l₃. alloc1 ! (λ l₄. alloc1 ! (λ l₅. alloc1 ! (λ l₆. alloc1 ! (λ l₇. alloc1 ! (λ l₈. alloc0 ! $ params1 ! $
-        pass1 ! (init ! 14 refl (tt, tt)) $ pass1 ! (init ! 12 refl (tt, (tt, (record { fits = room .0 }, tt)))) $ pass1 ! (init ! 10 refl a-typed) $ pass0 ! $
+        pass1 ! (init ! 14 refl (tt, tt)) $ pass1 ! (init ! 12 refl (tt, (tt, (record { fits = room .0 }, tt)))) $ pass1 ! (init ! 10 refl ask-typed) $ pass0 ! $
         move ! (19 ∷ []) $ fsplit ! $ move ! (20 ∷ []) $ split ! $ move ! (2 ∷ 0 ∷ []) $ opened ! tt κ κ′ q c (λ wt.
         -- [the cell; what the cursor owns; the open loan; obs; auth; the tokens; the rest; _8; …; _1; …; room for _0; …]
         assigns ! (of-opd ! (load ! (from ! (hop ! (look ! 21 refl) (fld ! refl (stop !)))) (look-in ! 0 (sub ! 0 refl (whole !))))) (from ! (stop !)) (init ! 13 refl (tt, wt .1 .0)) $
