@@ -2,6 +2,7 @@
 //! that a program makes, best of many passes. It measures and judges nothing: the status is 0.
 #![forbid(unsafe_code)]
 
+mod frames;
 mod rust;
 mod slots;
 
@@ -49,6 +50,7 @@ fn main() {
     check_tiling(&buffer);
     allocate(&buffer);
     slots::all(&buffer);
+    frames::all(&buffer);
     if zelamodurk::EMULATED {
         println!("the core ran under the kit's emulator here: these times say nothing");
     }

@@ -1,6 +1,8 @@
 //! The Rust's functions, called and not inlined, as a function of another library is; where the Rust
 //! is not there, functions that do nothing.
 
+pub mod frames;
+
 /// Whether the Rust was there when this was built.
 pub const PRESENT: bool = cfg!(oracle);
 

@@ -6,6 +6,7 @@ use crate::rust;
 use std::fmt;
 use zelamodurk::alloc::BINS;
 use zelamodurk::blocks::{State, SLOTS};
+use zelamodurk::frame::{Header, Status, UserBits};
 use zelamodurk::syntax::{Element, Place};
 use zelamodurk::walks::Groups;
 
@@ -18,8 +19,8 @@ pub struct Answer {
     pub bit: usize,
     /// The value, with 1 for true; 0 where refused.
     pub value: u32,
-    /// The bytes after a set, the pointers of an allocation, the exponents of a set; empty for the other
-    /// functions.
+    /// The bytes after a set or a repair, the pointers of an allocation, the exponents of a set; empty for the
+    /// other functions.
     pub after: Vec<u8>,
     /// The cursor's numbers after the call, where it has a cursor.
     pub place: Option<Place>,
@@ -33,6 +34,12 @@ pub struct Answer {
     pub groups: Option<Groups>,
     /// The allocation state after a call that may change it.
     pub state: Option<Box<State>>,
+    /// What a header says; none where refused.
+    pub header: Option<Header>,
+    /// Where a tail's user bits stand; none where refused.
+    pub user: Option<UserBits>,
+    /// Which checksums are good; none where refused.
+    pub status: Option<Status>,
 }
 
 impl Answer {
@@ -49,7 +56,7 @@ impl Answer {
     /// there is none.
     pub fn refused(number: u8, call: &Call) -> Self {
         let after = match call {
-            Call::Set { bytes, .. } => bytes.to_vec(),
+            Call::Set { bytes, .. } | Call::Repair { frame: bytes, .. } => bytes.to_vec(),
             Call::Allocate(_) | Call::ReadExponents { .. } => vec![0; BINS],
             Call::AllocateBlock(_) => vec![0; SLOTS * BINS],
             _ => Vec::new(),
@@ -91,6 +98,15 @@ impl fmt::Display for Answer {
         }
         if let Some(state) = &self.state {
             write!(f, ", {state:?}")?;
+        }
+        if let Some(header) = self.header {
+            write!(f, ", {header:?}")?;
+        }
+        if let Some(user) = self.user {
+            write!(f, ", {user:?}")?;
+        }
+        if let Some(status) = self.status {
+            write!(f, ", {status:?}")?;
         }
         Ok(())
     }
@@ -139,7 +155,7 @@ pub fn expected(call: &Call) -> Result<Answer, String> {
     if rule::reads_on(call) {
         return read_on(call);
     }
-    let answer = of_the_rust(call)?;
+    let answer = rule::reading::in_room(call, of_the_rust(call)?);
     if answer.number == number {
         return Ok(answer);
     }

@@ -8,6 +8,7 @@ use std::borrow::Cow;
 use std::fmt;
 use zelamodurk::blocks::State;
 use zelamodurk::exponents;
+use zelamodurk::frame::Codec;
 use zelamodurk::syntax::{Ask, Place, Role};
 use zelamodurk::walks::Groups;
 
@@ -15,7 +16,7 @@ pub use allocation::Allocation;
 pub use slots::{Asking, Block, Walk};
 
 /// The functions' names, in the order of [`Call::function`].
-pub const NAMES: [&str; 19] = [
+pub const NAMES: [&str; 23] = [
     "get",
     "set",
     "range_eq",
@@ -35,6 +36,10 @@ pub const NAMES: [&str; 19] = [
     "delta_code",
     "read_delta",
     "allocate_block",
+    "probe",
+    "read_tail",
+    "crc_status",
+    "repair",
 ];
 
 /// Bytes that a case lends or owns.
@@ -164,6 +169,22 @@ pub enum Call<'a> {
         slot: usize,
     },
     AllocateBlock(Box<Block<'a>>),
+    Probe {
+        frame: Bytes<'a>,
+    },
+    ReadTail {
+        from: Standing<'a>,
+        total: usize,
+        codec: Codec,
+    },
+    CrcStatus {
+        frame: Bytes<'a>,
+        codec: Codec,
+    },
+    Repair {
+        frame: Bytes<'a>,
+        codec: Codec,
+    },
 }
 
 impl<'a> Call<'a> {
@@ -301,6 +322,29 @@ impl<'a> Call<'a> {
         Call::AllocateBlock(Box::new(given))
     }
 
+    /// A probe of a header.
+    pub fn probe(frame: impl Into<Bytes<'a>>) -> Self {
+        let frame = frame.into();
+        Call::Probe { frame }
+    }
+
+    /// A reading of a tail.
+    pub fn read_tail(from: Standing<'a>, total: usize, codec: Codec) -> Self {
+        Call::ReadTail { from, total, codec }
+    }
+
+    /// A look at checksums.
+    pub fn crc_status(frame: impl Into<Bytes<'a>>, codec: Codec) -> Self {
+        let frame = frame.into();
+        Call::CrcStatus { frame, codec }
+    }
+
+    /// A repair of checksums.
+    pub fn repair(frame: impl Into<Bytes<'a>>, codec: Codec) -> Self {
+        let frame = frame.into();
+        Call::Repair { frame, codec }
+    }
+
     /// The function's place among [`NAMES`].
     pub fn function(&self) -> usize {
         match self {
@@ -323,6 +367,10 @@ impl<'a> Call<'a> {
             Call::DeltaCode { .. } => 16,
             Call::ReadDelta { .. } => 17,
             Call::AllocateBlock(_) => 18,
+            Call::Probe { .. } => 19,
+            Call::ReadTail { .. } => 20,
+            Call::CrcStatus { .. } => 21,
+            Call::Repair { .. } => 22,
         }
     }
 
@@ -342,7 +390,8 @@ impl<'a> Call<'a> {
             | Call::Span { from, .. }
             | Call::CloseSpan { from, .. }
             | Call::ReadExponents { from, .. }
-            | Call::ReadDelta { from, .. } => Some(from),
+            | Call::ReadDelta { from, .. }
+            | Call::ReadTail { from, .. } => Some(from),
             _ => None,
         }
     }

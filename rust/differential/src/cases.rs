@@ -3,6 +3,7 @@
 
 use crate::call::Call;
 use crate::channels;
+use crate::frames;
 use crate::random::Random;
 use crate::scripts;
 use crate::slots;
@@ -54,6 +55,7 @@ pub fn all(visit: &mut impl FnMut(&Call)) {
     zero_runs(visit);
     scripts::all(visit);
     channels::all(visit);
+    frames::all(visit);
     slots::all(visit);
 }
 

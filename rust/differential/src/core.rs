@@ -1,5 +1,6 @@
 //! What the core answers, through the safe wrapper, on bytes and words with guards around them.
 
+mod frame;
 mod slots;
 
 use crate::answers::Answer;
@@ -93,7 +94,7 @@ pub fn answer(call: &Call) -> Result<Answer, String> {
     }
 }
 
-/// What the functions of crc answer, and those of alloc and syntax.
+/// What the functions of crc answer, and those of alloc, syntax and frame.
 fn crc_answer(call: &Call) -> Result<Answer, String> {
     match call {
         Call::Crc16 { init, bytes } => {
@@ -162,7 +163,7 @@ fn logging_answer(call: &Call) -> Result<Answer, String> {
         } => logged(from, |frame, log, place| {
             syntax::close_span(frame, log, place, *name, *role, *start).map(|()| 0)
         }),
-        _ => slots::answer(call),
+        _ => frame::answer(call),
     }
 }
 

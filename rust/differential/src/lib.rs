@@ -10,6 +10,7 @@ pub mod call;
 pub mod cases;
 pub mod channels;
 pub mod core;
+pub mod frames;
 pub mod random;
 pub mod record;
 pub mod rule;

@@ -6,6 +6,7 @@
 
 pub mod block;
 pub mod channel;
+pub mod frame;
 pub mod reading;
 
 use crate::call::{Call, Standing};
@@ -13,6 +14,7 @@ use zelamodurk::syntax::Place;
 
 pub use channel::is_empty_past_the_bins;
 use channel::{BAD_TABLES, CODE_PAST_TABLE, EXPONENT_OUTSIDE};
+use frame::{BAD_LENGTH, LAST, NO_ROOM_FOR_TAIL};
 pub use reading::reads_on;
 
 /// A width above 32, where a width is what is asked for; ranges compared and spans may be wider. A
@@ -71,15 +73,22 @@ pub fn number(call: &Call) -> u8 {
             (BAD_ARGUMENT, *slot > 6),
             (BAD_DELTA, (*code == 0 && *block0) || *code > 2),
         ]),
+        Call::Probe { frame } => frame::header(frame),
+        Call::ReadTail { from, total, .. } => frame::tail(from, *total),
+        Call::CrcStatus { frame, codec } | Call::Repair { frame, codec } => {
+            frame::length(frame, *codec)
+        }
         _ => reading::number(call),
     }
 }
 
-/// Whether a refusal is "the port's own": 6, 19, 21, 1 in bits, and 8 and 11 in allocation. So is 1 where position plus width
-/// passes the largest number, since the Rust panics or wraps there.
+/// Whether a refusal is "the port's own": 6, 19, 20, 21, 1 in bits, and 8 and 11 in allocation. So is 1 or 16 where position plus
+/// width passes the largest number, since the Rust panics or wraps there. 19 in a tail comes where the Rust has read on: [`reading::in_room`].
 pub fn is_ports_own(call: &Call, number: u8) -> bool {
     match (number, call) {
-        (BAD_ARGUMENT | LOG_FULL | BAD_TABLES, _) => true,
+        (LOG_FULL, Call::ReadTail { .. }) => false,
+        (NO_ROOM_FOR_TAIL, Call::ReadTail { from, .. }) => wraps(&from.place, LAST),
+        (BAD_ARGUMENT | LOG_FULL | BAD_LENGTH | BAD_TABLES, _) => true,
         (EXPONENT_OUTSIDE | CODE_PAST_TABLE, Call::Allocate(_) | Call::AllocateBlock(_)) => true,
         (PAST_LIMIT, Call::ReadElement { from, ask }) => wraps(&from.place, ask.width),
         (PAST_LIMIT, Call::ReadRaw { place, width, .. }) => wraps(place, *width),

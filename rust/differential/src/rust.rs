@@ -19,7 +19,7 @@ pub const NAMES: [(u32, &str); 9] = [
 ];
 
 /// The other names that the core itself logs, with the Rust's texts.
-pub const LOGGED: [(u32, &str); 13] = [
+pub const LOGGED: [(u32, &str); 16] = [
     (2, "exps[ch]"),
     (3, "cplabsexp"),
     (4, "cplexps"),
@@ -33,6 +33,9 @@ pub const LOGGED: [(u32, &str); 13] = [
     (21, "cpldeltoffst"),
     (22, "cpldeltlen"),
     (23, "cpldeltba"),
+    (33, "auxdatal"),
+    (35, "crcrsv"),
+    (36, "encinfo"),
 ];
 
 /// What the Rust does with a call.
@@ -53,11 +56,13 @@ mod channel;
 #[cfg(oracle)]
 mod cursor;
 #[cfg(oracle)]
+mod frame;
+#[cfg(oracle)]
 mod reading;
 
 #[cfg(oracle)]
 mod there {
-    use super::{block, channel, cursor, quiet, reading, Asked};
+    use super::{block, channel, cursor, frame, quiet, reading, Asked};
     use crate::answers::Answer;
     use crate::call::Call;
     use crate::rule;
@@ -73,7 +78,7 @@ mod there {
         if let Some(asked) = reading::ask(call) {
             return Some(asked);
         }
-        if let Some(asked) = cursor::ask(call) {
+        if let Some(asked) = frame::ask(call).or_else(|| cursor::ask(call)) {
             return Some(asked);
         }
         let mut after = match call {

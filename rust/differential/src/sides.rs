@@ -7,6 +7,7 @@ mod slots;
 use crate::answers::Answer;
 use crate::call::{hex, word16, words_hex, Call, Standing};
 use std::fmt;
+use zelamodurk::frame::Codec;
 use zelamodurk::syntax::{Ask, Element, Place, Role};
 
 /// At most so many bytes, words and numbers stand in a side.
@@ -45,6 +46,10 @@ pub fn lent(call: &Call) -> Side {
         Call::Crc16 { init, bytes } => over(bytes, [usize::from(*init)]),
         Call::Zeros { init, n } => over(&[], [usize::from(*init), *n]),
         Call::Allocate(given) => channel::lent(given),
+        Call::Probe { frame } => over(frame, []),
+        Call::CrcStatus { frame, codec } | Call::Repair { frame, codec } => {
+            over(frame, [usize::from(*codec == Codec::Eac3)])
+        }
         _ => lent_to_syntax(call),
     }
 }
@@ -81,6 +86,9 @@ fn lent_to_syntax(call: &Call) -> Side {
             from,
             [u64::from(*name), u64::from(role.word()), *bits as u64],
         ),
+        Call::ReadTail { from, total, codec } => {
+            standing(from, [*total as u64, u64::from(*codec == Codec::Eac3)])
+        }
         Call::CheckTiling { log, count, total } => logged(log, [*count, *total]),
         Call::ElementAt { log, count, k } => logged(log, [*count, *k]),
         _ => slots::lent(call),

@@ -37,7 +37,8 @@ static any *const functions[] = {
     FUNCTION(zela_close_span),      FUNCTION(zela_check_tiling),     FUNCTION(zela_element_at),
     FUNCTION(zela_allocate),        FUNCTION(zela_read_exponents),   FUNCTION(zela_conventional),
     FUNCTION(zela_aht),             FUNCTION(zela_delta_code),       FUNCTION(zela_read_delta),
-    FUNCTION(zela_allocate_block),
+    FUNCTION(zela_allocate_block),  FUNCTION(zela_probe),            FUNCTION(zela_read_tail),
+    FUNCTION(zela_crc_status),      FUNCTION(zela_repair),
 };
 
 static uint8_t ahead[65536];

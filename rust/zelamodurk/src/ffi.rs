@@ -7,12 +7,14 @@
 //! between calls.
 #![allow(unsafe_code)]
 
+mod frame;
 mod slots;
 
 use crate::alloc::{Channel, Plain, Tables, BINS};
 use crate::refusal::{outcome, Refusal};
 use crate::syntax::{Ask, Element, Place, Role, Span};
 
+pub use frame::{crc_status, probe, read_tail, repair};
 pub use slots::{aht, allocate_block, conventional, delta_code, read_delta, read_exponents};
 
 extern "C" {

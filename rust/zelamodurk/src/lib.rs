@@ -19,8 +19,9 @@ pub mod bits;
 pub mod blocks;
 pub mod crc;
 pub mod exponents;
-#[cfg_attr(not(target_arch = "x86_64"), allow(dead_code))]
+#[cfg_attr(not(target_arch = "x86_64"), allow(dead_code, unused_imports))]
 mod ffi;
+pub mod frame;
 mod refusal;
 #[cfg(not(target_arch = "x86_64"))]
 mod relay;

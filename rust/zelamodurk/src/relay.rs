@@ -2,6 +2,7 @@
 //! own under the kit's emulator, as `rt` runs programs there, and each call is sent to it
 //! (`relay/relay.c`). This serves tests. It is slow, and its times say nothing.
 
+mod frame;
 mod slots;
 
 use crate::alloc::{Channel, Plain, Tables, BINS};
@@ -12,6 +13,7 @@ use std::cell::RefCell;
 use std::io::{self, BufReader, Read, Write};
 use std::process::{Child, ChildStdin, ChildStdout, Command, Stdio};
 
+pub use frame::{crc_status, probe, read_tail, repair};
 pub use slots::{aht, allocate_block, conventional, delta_code, read_delta, read_exponents};
 
 /// The kit's folder for this machine, and the program: the build script made it.
@@ -43,6 +45,10 @@ enum Function {
     DeltaCode,
     ReadDelta,
     AllocateBlock,
+    Probe,
+    ReadTail,
+    CrcStatus,
+    Repair,
 }
 
 /// An argument of a call.

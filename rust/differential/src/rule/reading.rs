@@ -73,7 +73,7 @@ pub fn nearer<'a>(call: &Call<'a>) -> Option<Call<'a>> {
 /// What the Rust answers, where its log has not grown past the room; else 19 at the first element that has
 /// no room, those before it logged.
 pub fn in_room(call: &Call, answer: Answer) -> Answer {
-    let (Some(from), Some(place)) = (call.standing(), answer.place) else {
+    let (Some(from), Some(mut place)) = (call.standing(), answer.place) else {
         return answer;
     };
     let room = room(&from.log);
@@ -83,8 +83,7 @@ pub fn in_room(call: &Call, answer: Answer) -> Answer {
     let mut full = Answer::refused(LOG_FULL, call);
     full.log[..WORDS * room].copy_from_slice(&answer.log[..WORDS * room]);
     full.bit = answer.log[WORDS * room + POS] as usize;
-    if let Some(place) = &mut full.place {
-        (place.pos, place.count) = (full.bit, room);
-    }
+    (place.pos, place.count) = (full.bit, room);
+    full.place = Some(place);
     full
 }

@@ -195,7 +195,10 @@ fn step(cursor: &mut Cursor, call: &Call) -> Result<u32> {
 }
 
 /// The Rust's refusals have no number: what each says, and the number that document 01 gives it.
-const TEXTS: [(&str, u8); 12] = [
+const TEXTS: [(&str, u8); 17] = [
+    ("no sync word", 2),
+    ("short frame header", 3),
+    ("AC-3 fscod", 4),
     ("exponent reuse where new", 6),
     ("exponent range", 6),
     ("grouped exponent", 7),
@@ -206,6 +209,8 @@ const TEXTS: [(&str, u8); 12] = [
     ("bap above", 13),
     ("composite GAQ gain", 14),
     ("deltbae", 15),
+    ("leaving no room for auxdatae", 16),
+    ("auxdatal", 17),
     ("does not follow bit", 18),
     ("elements end at bit", 18),
 ];
@@ -215,6 +220,7 @@ pub fn number(error: &Error) -> u8 {
     let said = match error {
         Error::Truncated(_) => return 1,
         Error::Invalid(said) => said,
+        Error::Unsupported(_) => return 5,
         _ => return u8::MAX,
     };
     let listed = TEXTS.iter().find(|(text, _)| said.contains(text));

@@ -2,6 +2,7 @@
 //! The Rust's half holds in the profile that this is built in; `./test` builds for release.
 #![forbid(unsafe_code)]
 
+mod frames;
 mod slots;
 
 use differential::answers::Answer;
