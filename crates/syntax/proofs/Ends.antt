@@ -45,7 +45,7 @@ module _ (frame : List ℕ) (st : Standing) (a : Ask) (narrow : a .width ≤ 32)
   unfolding readOf
   read-on v e f = rw e (sym (then-taken _ _ (ltb 32 (a .width)) _ (fits (length frame) (length (st .log)) (st .place) (a .width)) _ (le-ltb 32 (a .width) narrow) f))
 
--- and of its value alone
+-- the three ends of its value alone
 module _ (frame : List ℕ) (words : ℕ) (p : Place) (width : ℕ) where
   pub value-wide : 32 < width → _≡_ {A = Outcome ℕ} (refused (grounds 6 (p .pos))) (valueAt frame words p width)
   value-wide h = simp (lt-ltb 32 width h)
