@@ -1,5 +1,6 @@
 // Entries of `alloc`: the exponents are the bytes first, LOG_ADD the bytes second, HEARING the words. The pointers are left
 // where the exponents stood.
+use crate::lent;
 use crate::low;
 use crate::numbers::Row;
 use crate::told;
@@ -16,7 +17,7 @@ ghost use Rattle.text.specs.Text.{Counts};
 // START END CODES LEAK DELTA HIGH
 pub fn allocate(first: &mut [u8], second: &[u8], hearing: &[u32], args: Row) -> Row {
     let mut exponents = [0u8; 256];
-    copy(first, &mut exponents);
+    lent::copy(first, &mut exponents);
     let mut halves = [0u16; words::ROOM];
     let count = narrow(hearing, &mut halves);
     let found = alloc::allocate(
@@ -31,23 +32,11 @@ pub fn allocate(first: &mut [u8], second: &[u8], hearing: &[u32], args: Row) -> 
         second,
     );
     let bap = found.bap;
-    copy(&bap, first);
+    lent::copy(&bap, first);
     let answer = found.answer;
     match answer {
         Ended::Done => told::taken(0),
         Ended::Refused(r) => told::refused(r),
-    }
-}
-
-// Copies bytes to as many others.
-fn copy(from: &[u8], to: &mut [u8]) {
-    if from.len() != to.len() {
-        return;
-    }
-    let mut i = 0;
-    while i < from.len() {
-        to[i] = from[i];
-        i += 1;
     }
 }
 

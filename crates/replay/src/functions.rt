@@ -2,17 +2,19 @@
 use crate::alloc_entries;
 use crate::bit_entries;
 use crate::crc_entries;
+use crate::exponent_entries;
 use crate::names;
 use crate::numbers;
 use crate::numbers::Row;
 use crate::syntax_entries;
+use crate::walk_entries;
 
 // In the order of their counts in `tally`.
-pub const NAMES: [u8; 110] =
-    *b"get set range_eq range_zero crc16 zeros read_element read_raw span close_span check_tiling element_at allocate";
+pub const NAMES: [u8; 142] =
+    *b"get set range_eq range_zero crc16 zeros read_element read_raw span close_span check_tiling element_at allocate read_exponents conventional aht";
 
 // How many names there are.
-pub const COUNT: usize = 13;
+pub const COUNT: usize = 16;
 
 // The place of the function of a name: no less than COUNT where there is none.
 pub fn place(name: &[u8]) -> usize {
@@ -35,6 +37,9 @@ pub fn run(at: usize, first: &mut [u8], second: &mut [u8], words: &mut [u32], ar
         10 => syntax_entries::check_tiling(words, args),
         11 => syntax_entries::element_at(words, args),
         12 => alloc_entries::allocate(first, second, words, args),
+        13 => exponent_entries::read_exponents(first, second, words, args),
+        14 => walk_entries::conventional(first, second, args),
+        15 => walk_entries::aht(first, second, args),
         _ => [0; numbers::ROOM],
     }
 }

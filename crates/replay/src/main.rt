@@ -6,7 +6,9 @@ mod alloc_entries;
 mod bit_entries;
 mod crc_entries;
 mod entries;
+mod exponent_entries;
 mod functions;
+mod lent;
 mod lines;
 mod low;
 mod names;
@@ -15,6 +17,7 @@ mod report;
 mod syntax_entries;
 mod tally;
 mod told;
+mod walk_entries;
 mod words;
 
 fn main() {
@@ -23,6 +26,8 @@ fn main() {
     replay_file(b"crc.txt", &mut tally);
     replay_file(b"syntax.txt", &mut tally);
     replay_file(b"alloc.txt", &mut tally);
+    replay_file(b"exponents.txt", &mut tally);
+    replay_file(b"walks.txt", &mut tally);
     report::summary(&tally);
 }
 

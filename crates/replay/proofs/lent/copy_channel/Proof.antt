@@ -1,20 +1,20 @@
--- `replay::alloc_entries::copy` is safe and ends.
+-- `replay::lent::copy_channel` is safe and ends.
 -- Assumes nothing.
 use mathlib.Core.Path.{_≡_}
 use Prim.Native.Nat.{_-_, _≤_}
 use lib.ListN.{length}
 use borrow.Author.Needs.{needs}
-use Rattle.replay.proofs.alloc_entries.copy.Statement.{statement}
-use Rattle.replay.proofs.alloc_entries.copy.Tie as tie
+use Rattle.replay.proofs.lent.copy_channel.Statement.{statement}
+use Rattle.replay.proofs.lent.copy_channel.Tie as tie
 
 abbrev Inv-loop : tie.InvT-loop
-Inv-loop from to₀ i₀ to i = (i ≤ length from) × (length to ≡ length to₀)
+Inv-loop from to₀ i₀ to i = (i ≤ 256) × (length to ≡ length to₀)
 
 abbrev μ-loop : tie.MeasureT-loop
-μ-loop from to₀ i₀ to i = length from - i
+μ-loop from to₀ i₀ to i = 256 - i
 
-pub copy-spec : {M : Type 1} → statement M
-copy-spec =
+pub copy-channel-spec : {M : Type 1} → statement M
+copy-channel-spec =
     tie.close
     (tie.spec
     Inv-loop

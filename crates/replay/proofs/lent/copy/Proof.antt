@@ -1,0 +1,30 @@
+-- `replay::lent::copy` is safe and ends.
+-- Assumes nothing.
+use mathlib.Core.Path.{_≡_}
+use Prim.Native.Nat.{_-_, _≤_}
+use lib.ListN.{length}
+use borrow.Author.Needs.{needs}
+use Rattle.replay.proofs.lent.copy.Statement.{statement}
+use Rattle.replay.proofs.lent.copy.Tie as tie
+
+abbrev Inv-loop : tie.InvT-loop
+Inv-loop from to₀ i₀ to i = (i ≤ length from) × (length to ≡ length to₀)
+
+abbrev μ-loop : tie.MeasureT-loop
+μ-loop from to₀ i₀ to i = length from - i
+
+pub copy-spec : {M : Type 1} → statement M
+copy-spec =
+    tie.close
+    (tie.spec
+    Inv-loop
+    μ-loop
+    (λ c. search needs)
+    (λ c. search needs)
+    (λ c. search needs)
+    (λ c. search needs)
+    (λ c. search needs)
+    (λ c. search needs)
+    (λ c. search needs)
+    (λ c. search needs)
+    (λ c. search needs))
