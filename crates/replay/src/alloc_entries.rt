@@ -17,7 +17,7 @@ ghost use Rattle.text.specs.Text.{Counts};
 // START END CODES LEAK DELTA HIGH
 pub fn allocate(first: &mut [u8], second: &[u8], hearing: &[u32], args: Row) -> Row {
     let mut exponents = [0u8; 256];
-    lent::copy(first, &mut exponents);
+    lent::take(first, 0, &mut exponents);
     let mut halves = [0u16; words::ROOM];
     let count = narrow(hearing, &mut halves);
     let found = alloc::allocate(
@@ -32,7 +32,7 @@ pub fn allocate(first: &mut [u8], second: &[u8], hearing: &[u32], args: Row) -> 
         second,
     );
     let bap = found.bap;
-    lent::copy(&bap, first);
+    lent::lay(&bap, first, 0);
     let answer = found.answer;
     match answer {
         Ended::Done => told::taken(0),
@@ -41,7 +41,7 @@ pub fn allocate(first: &mut [u8], second: &[u8], hearing: &[u32], args: Row) -> 
 }
 
 // Puts the low halves of words at the start of out, and says how many: none where they don't fit.
-fn narrow(words: &[u32], out: &mut [u16]) -> usize
+pub fn narrow(words: &[u32], out: &mut [u16]) -> usize
     ensures { λ r. ⌜ Counts r (now (out .exit)) ⌝ }
 {
     if out.len() < words.len() {

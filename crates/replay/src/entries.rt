@@ -3,7 +3,7 @@
 //   NAME FIRST SECOND WORDS ARGUMENT.. = FIRST SECOND WORDS ANSWER.. BY
 //
 // with one space between: the function's name, what it is lent and asked, what the lent bytes and words are after the call,
-// what it answers, and who decided. FIRST and SECOND are bytes in hex, at most 512. WORDS are words of 32 bits in hex, high
+// what it answers, and who decided. FIRST and SECOND are bytes in hex, at most 2,304. WORDS are words of 32 bits in hex, high
 // byte first, at most 256. A `-` stands for none, and after the `=` for what is as before. ARGUMENT and ANSWER are decimal
 // numbers, at most 48 each, with 0 for those that are left out. A function's entry says what they are: an argument of a
 // narrower type is the number's low bits, and an answer begins with 0 or the refusal's number, the refusal's bit, and the
@@ -16,7 +16,7 @@ use text::Rest;
 ghost use Rattle.text.specs.Text.{Counts};
 
 // How many bytes a field may hold.
-const BYTES: usize = 512;
+const BYTES: usize = 2304;
 
 // What stands before or after the `=`: how many bytes and words, and what is left of the line after the numbers.
 struct Side {

@@ -29,7 +29,7 @@ pub fn read_exponents(frame: &[u8], second: &mut [u8], log: &mut [u32], args: Ro
         &mut exp_end,
         &mut bit,
     );
-    lent::copy_channel(&exponents, second);
+    lent::lay_channel(&exponents, second, 0);
     let mut row = [0; numbers::ROOM];
     row[0] = number as usize;
     row[1] = bit;

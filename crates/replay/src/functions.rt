@@ -1,6 +1,7 @@
 // The functions that have recorded answers, by their place in the list of their names.
 use crate::alloc_entries;
 use crate::bit_entries;
+use crate::block_entries;
 use crate::crc_entries;
 use crate::exponent_entries;
 use crate::names;
@@ -10,11 +11,11 @@ use crate::syntax_entries;
 use crate::walk_entries;
 
 // In the order of their counts in `tally`.
-pub const NAMES: [u8; 142] =
-    *b"get set range_eq range_zero crc16 zeros read_element read_raw span close_span check_tiling element_at allocate read_exponents conventional aht";
+pub const NAMES: [u8; 179] =
+    *b"get set range_eq range_zero crc16 zeros read_element read_raw span close_span check_tiling element_at allocate read_exponents conventional aht delta_code read_delta allocate_block";
 
 // How many names there are.
-pub const COUNT: usize = 16;
+pub const COUNT: usize = 19;
 
 // The place of the function of a name: no less than COUNT where there is none.
 pub fn place(name: &[u8]) -> usize {
@@ -40,6 +41,9 @@ pub fn run(at: usize, first: &mut [u8], second: &mut [u8], words: &mut [u32], ar
         13 => exponent_entries::read_exponents(first, second, words, args),
         14 => walk_entries::conventional(first, second, args),
         15 => walk_entries::aht(first, second, args),
+        16 => block_entries::delta_code(second, args),
+        17 => block_entries::read_delta(first, second, words, args),
+        18 => block_entries::allocate_block(first, second, words, args),
         _ => [0; numbers::ROOM],
     }
 }

@@ -4,6 +4,7 @@
 // `functions`, and its entry in the module of its layer; a file more is a call more in `main`.
 mod alloc_entries;
 mod bit_entries;
+mod block_entries;
 mod crc_entries;
 mod entries;
 mod exponent_entries;
@@ -28,6 +29,7 @@ fn main() {
     replay_file(b"alloc.txt", &mut tally);
     replay_file(b"exponents.txt", &mut tally);
     replay_file(b"walks.txt", &mut tally);
+    replay_file(b"blocks.txt", &mut tally);
     report::summary(&tally);
 }
 
