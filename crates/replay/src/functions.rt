@@ -4,6 +4,7 @@ use crate::bit_entries;
 use crate::block_entries;
 use crate::crc_entries;
 use crate::exponent_entries;
+use crate::frame_entries;
 use crate::names;
 use crate::numbers;
 use crate::numbers::Row;
@@ -11,11 +12,11 @@ use crate::syntax_entries;
 use crate::walk_entries;
 
 // In the order of their counts in `tally`.
-pub const NAMES: [u8; 179] =
-    *b"get set range_eq range_zero crc16 zeros read_element read_raw span close_span check_tiling element_at allocate read_exponents conventional aht delta_code read_delta allocate_block";
+pub const NAMES: [u8; 213] =
+    *b"get set range_eq range_zero crc16 zeros read_element read_raw span close_span check_tiling element_at allocate read_exponents conventional aht delta_code read_delta allocate_block probe read_tail crc_status repair";
 
 // How many names there are.
-pub const COUNT: usize = 19;
+pub const COUNT: usize = 23;
 
 // The place of the function of a name: no less than COUNT where there is none.
 pub fn place(name: &[u8]) -> usize {
@@ -44,6 +45,10 @@ pub fn run(at: usize, first: &mut [u8], second: &mut [u8], words: &mut [u32], ar
         16 => block_entries::delta_code(second, args),
         17 => block_entries::read_delta(first, second, words, args),
         18 => block_entries::allocate_block(first, second, words, args),
+        19 => frame_entries::probe(first),
+        20 => frame_entries::read_tail(first, words, args),
+        21 => frame_entries::crc_status(first, args),
+        22 => frame_entries::repair(first, args),
         _ => [0; numbers::ROOM],
     }
 }

@@ -8,6 +8,7 @@ mod block_entries;
 mod crc_entries;
 mod entries;
 mod exponent_entries;
+mod frame_entries;
 mod functions;
 mod lent;
 mod lines;
@@ -30,6 +31,7 @@ fn main() {
     replay_file(b"exponents.txt", &mut tally);
     replay_file(b"walks.txt", &mut tally);
     replay_file(b"blocks.txt", &mut tally);
+    replay_file(b"frames.txt", &mut tally);
     report::summary(&tally);
 }
 
