@@ -30,6 +30,7 @@ fn main() {
     replay_file(b"alloc.txt", &mut tally);
     replay_file(b"exponents.txt", &mut tally);
     replay_file(b"walks.txt", &mut tally);
+    replay_file(b"deltas.txt", &mut tally);
     replay_file(b"blocks.txt", &mut tally);
     replay_file(b"frames.txt", &mut tally);
     report::summary(&tally);

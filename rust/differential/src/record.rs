@@ -8,15 +8,20 @@ use crate::vectors::{self, FORM};
 use std::collections::HashSet;
 
 mod channels;
+mod picked;
 mod syntax;
 
 /// The files' texts, in the order of [`vectors::FILES`].
-pub fn texts() -> Result<[String; 4], String> {
+pub fn texts() -> Result<[String; 8], String> {
     Ok([
         text(BITS_HEAD, &bits_calls())?,
         text(CRC_HEAD, &crc_calls())?,
         text(syntax::HEAD, &syntax::calls())?,
         text(channels::HEAD, &channels::calls())?,
+        text(picked::SETS_HEAD, &picked::sets()?)?,
+        text(picked::WALKS_HEAD, &picked::walks()?)?,
+        text(picked::DELTAS_HEAD, &picked::deltas()?)?,
+        text(picked::BLOCKS_HEAD, &picked::blocks()?)?,
     ])
 }
 

@@ -9,9 +9,10 @@ use crate::call::{hex, word16, words_hex, Call, Standing};
 use std::fmt;
 use zelamodurk::frame::Codec;
 use zelamodurk::syntax::{Ask, Element, Place, Role};
+use zelamodurk::walks::Groups;
 
 /// At most so many bytes, words and numbers stand in a side.
-const BYTES: usize = 512;
+const BYTES: usize = 2304;
 const WORDS: usize = 256;
 const NUMBERS: usize = 48;
 
@@ -132,8 +133,12 @@ fn standing<const N: usize>(from: &Standing, more: [u64; N]) -> Side {
 pub fn after(call: &Call, answer: &Answer) -> Side {
     let lent = lent(call);
     let mut after = Side::default();
-    if answer.after != lent.first {
-        after.first.clone_from(&answer.after);
+    let (first, second) = slots::left(call, answer);
+    if first != lent.first {
+        after.first = first;
+    }
+    if second != lent.second {
+        after.second = second;
     }
     if answer.log != lent.words {
         after.words.clone_from(&answer.log);
@@ -144,6 +149,12 @@ pub fn after(call: &Call, answer: &Answer) -> Side {
     }
     if let Some(element) = answer.element {
         after.numbers.extend(told(element));
+    }
+    if let Some((start, end)) = answer.range {
+        after.numbers.extend([start as u64, end as u64]);
+    }
+    if let Some(Groups { g1, g2, g4 }) = answer.groups {
+        after.numbers.extend([g1, g2, g4].map(u64::from));
     }
     after
 }
@@ -206,7 +217,7 @@ fn named(name: &str, lent: Side) -> Result<Call<'static>, String> {
         "check_tiling" => Call::check_tiling(words, args.next()?, args.next()?),
         "element_at" => Call::element_at(words, args.next()?, args.next()?),
         "allocate" => Call::allocate(channel::given(first, second, &words, &mut args)?),
-        other => return Err(format!("no function is named {other:?}")),
+        _ => return slots::named(name, (first, second, words), &mut args),
     })
 }
 

@@ -1,11 +1,11 @@
 //! Cases of what reads, walks and allocates slots: exponent sets, conventional and AHT walks, delta segments
 //! and whole blocks.
 
-mod aht;
-mod blocks;
-mod deltas;
-mod sets;
-mod walks;
+pub mod aht;
+pub mod blocks;
+pub mod deltas;
+pub mod sets;
+pub mod walks;
 
 use crate::call::{Call, Standing};
 use crate::cases::HUGE;

@@ -15,7 +15,16 @@ use crate::sides::{self, Side};
 use std::path::PathBuf;
 
 /// The files, in the folder `vectors`.
-pub const FILES: [&str; 4] = ["bits.txt", "crc.txt", "syntax.txt", "alloc.txt"];
+pub const FILES: [&str; 8] = [
+    "bits.txt",
+    "crc.txt",
+    "syntax.txt",
+    "alloc.txt",
+    "exponents.txt",
+    "walks.txt",
+    "deltas.txt",
+    "blocks.txt",
+];
 
 /// What each file says of a line.
 pub const FORM: &str = "\
