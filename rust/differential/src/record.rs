@@ -12,7 +12,7 @@ mod picked;
 mod syntax;
 
 /// The files' texts, in the order of [`vectors::FILES`].
-pub fn texts() -> Result<[String; 8], String> {
+pub fn texts() -> Result<[String; 9], String> {
     Ok([
         text(BITS_HEAD, &bits_calls())?,
         text(CRC_HEAD, &crc_calls())?,
@@ -22,6 +22,7 @@ pub fn texts() -> Result<[String; 8], String> {
         text(picked::WALKS_HEAD, &picked::walks()?)?,
         text(picked::DELTAS_HEAD, &picked::deltas()?)?,
         text(picked::BLOCKS_HEAD, &picked::blocks()?)?,
+        text(picked::FRAMES_HEAD, &picked::frames()?)?,
     ])
 }
 

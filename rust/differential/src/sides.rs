@@ -2,6 +2,7 @@
 //! Every function has them in one form; what its numbers are stands here alone.
 
 mod channel;
+mod frames;
 mod slots;
 
 use crate::answers::Answer;
@@ -156,6 +157,7 @@ pub fn after(call: &Call, answer: &Answer) -> Side {
     if let Some(Groups { g1, g2, g4 }) = answer.groups {
         after.numbers.extend([g1, g2, g4].map(u64::from));
     }
+    after.numbers.extend(frames::told(call, answer));
     after
 }
 
@@ -217,6 +219,9 @@ fn named(name: &str, lent: Side) -> Result<Call<'static>, String> {
         "check_tiling" => Call::check_tiling(words, args.next()?, args.next()?),
         "element_at" => Call::element_at(words, args.next()?, args.next()?),
         "allocate" => Call::allocate(channel::given(first, second, &words, &mut args)?),
+        "probe" | "read_tail" | "crc_status" | "repair" => {
+            frames::named(name, first, words, &mut args)?
+        }
         _ => return slots::named(name, (first, second, words), &mut args),
     })
 }

@@ -15,7 +15,7 @@ use crate::sides::{self, Side};
 use std::path::PathBuf;
 
 /// The files, in the folder `vectors`.
-pub const FILES: [&str; 8] = [
+pub const FILES: [&str; 9] = [
     "bits.txt",
     "crc.txt",
     "syntax.txt",
@@ -24,6 +24,7 @@ pub const FILES: [&str; 8] = [
     "walks.txt",
     "deltas.txt",
     "blocks.txt",
+    "frames.txt",
 ];
 
 /// What each file says of a line.

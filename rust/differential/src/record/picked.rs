@@ -3,6 +3,7 @@
 
 use crate::answers::{expected, By};
 use crate::call::{Call, NAMES};
+use crate::frames;
 use crate::sides;
 use crate::slots;
 use crate::vectors;
@@ -33,6 +34,15 @@ pub const BLOCKS_HEAD: &str = "\
 # allocate_block FIRST SECOND WORDS FSCOD, and of each slot PRESENT HIGH EXP_START EXP_END START END
 # FIRST is the exponents of seven slots, after the = the pointers, and LOG_ADD behind them; SECOND is the
 # state, its 200 bytes in C, WORDS is HEARING.
+";
+
+pub const FRAMES_HEAD: &str = "\
+# Answers of the functions of probe, frame and repair. PLACE is POS LIMIT BLOCK COUNT, EAC3 1 for E-AC-3:
+# probe FIRST, answers .. EAC3 BYTES where taken
+# read_tail FIRST WORDS PLACE TOTAL EAC3, answers .. POS COUNT BLOCK, and where taken the user bits' START WIDTH
+# crc_status FIRST EAC3, answers .. CRC1 CRC2 where taken, 1 for a good one, and CRC1 0 for E-AC-3
+# repair FIRST EAC3
+# FIRST is the frame, WORDS the log.
 ";
 
 /// A file has room for lines of so many letters, below its head.
@@ -114,5 +124,11 @@ pub fn deltas() -> Result<Vec<Call<'static>>, String> {
 pub fn blocks() -> Result<Vec<Call<'static>>, String> {
     let mut picker = Picker::new(7_000, 1);
     slots::blocks::all(&mut |call| picker.visit(call));
+    picker.calls()
+}
+
+pub fn frames() -> Result<Vec<Call<'static>>, String> {
+    let mut picker = Picker::new(1_500, 8);
+    frames::all(&mut |call| picker.visit(call));
     picker.calls()
 }
