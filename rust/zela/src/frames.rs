@@ -1,0 +1,161 @@
+//! The frames of an input, and the bytes between them.
+//!
+//! A frame is where the core's probe accepts a header, the whole frame is there, and its checksums are
+//! good. Where they are bad it is still a frame if the input ends with it or a header that probe accepts
+//! follows, and no frame with good checksums begins inside it: a wrong length would swallow that one. Any
+//! other byte is skipped. The rule looks at no byte before it, so that after damage the first frame is
+//! found as if the input began there.
+
+use crate::clock::Time;
+use crate::core::{self, Codec, Header, Refusal, Status};
+use crate::trouble::{Place, Trouble};
+use crate::window::Window;
+use std::io::{self, Read};
+
+/// What the rule looks at: a frame, and one that begins with its last byte.
+const LOOK: usize = 2 * core::LONGEST;
+const SYNC: [u8; 2] = [0x0B, 0x77];
+
+/// A whole frame.
+pub struct Frame<'a> {
+    pub codec: Codec,
+    pub status: Status,
+    pub bytes: &'a [u8],
+}
+
+/// A run of bytes that are in no frame.
+#[derive(Clone, Copy, Debug, PartialEq, Eq)]
+pub struct Gap {
+    pub bytes: u64,
+    /// What is wrong with its first byte.
+    pub trouble: Trouble,
+}
+
+/// What stands next in an input.
+pub enum Item<'a> {
+    Frame(Frame<'a>),
+    Gap(Gap),
+}
+
+/// A reader of frames.
+pub struct Frames<R> {
+    window: Window<R>,
+    time: Time,
+}
+
+impl<R: Read> Frames<R> {
+    pub fn new(input: R) -> Self {
+        Frames {
+            window: Window::new(input),
+            time: Time::default(),
+        }
+    }
+
+    /// Where the reader stands.
+    pub fn place(&self) -> Place {
+        Place {
+            offset: self.window.offset(),
+            time: self.time,
+        }
+    }
+
+    /// What stands next and where, or nothing at the end of the input.
+    pub fn next(&mut self) -> io::Result<Option<(Place, Item<'_>)>> {
+        let place = self.place();
+        self.window.fill(LOOK)?;
+        if self.window.held().is_empty() {
+            return Ok(None);
+        }
+        let item = match self.judged() {
+            Ok((header, status)) => Item::Frame(self.take(header, status)),
+            Err(trouble) => Item::Gap(self.skip(trouble)?),
+        };
+        Ok(Some((place, item)))
+    }
+
+    fn judged(&self) -> Result<(Header, Status), Trouble> {
+        judge(self.window.held(), self.window.is_last())
+    }
+
+    fn take(&mut self, header: Header, status: Status) -> Frame<'_> {
+        let codec = header.codec;
+        let bytes = self.window.take(header.bytes);
+        self.time += Time::of_frame(codec, bytes);
+        Frame {
+            codec,
+            status,
+            bytes,
+        }
+    }
+
+    /// Moves to the next frame, or to the end of the input.
+    fn skip(&mut self, trouble: Trouble) -> io::Result<Gap> {
+        let mut bytes = 0;
+        loop {
+            let step = next_sync(self.window.held());
+            bytes += self.window.take(step).len() as u64;
+            self.window.fill(LOOK)?;
+            if self.window.held().is_empty() || self.judged().is_ok() {
+                let trouble = trouble.before_next(bytes);
+                return Ok(Gap { bytes, trouble });
+            }
+        }
+    }
+}
+
+/// Whether a frame begins with these bytes; `are_last` where the input ends with them.
+fn judge(bytes: &[u8], are_last: bool) -> Result<(Header, Status), Trouble> {
+    let (header, status) = whole(bytes)?;
+    let after = bytes.get(header.bytes..).unwrap_or_default();
+    let ends_well = (are_last && after.is_empty()) || probe(after).is_ok();
+    if status.is_good() || (ends_well && !holds_another(bytes, header.bytes)) {
+        return Ok((header, status));
+    }
+    let whole = header.bytes as u64;
+    Err(Trouble::Lone { status, whole })
+}
+
+/// What the core makes of these bytes as a header; it looks at no others.
+fn probe(bytes: &[u8]) -> Result<Header, Refusal> {
+    core::probe(bytes.get(..core::HEADER).unwrap_or(bytes))
+}
+
+/// The checksums of what may be a frame, if all of it is there.
+fn whole(bytes: &[u8]) -> Result<(Header, Status), Trouble> {
+    let header = probe(bytes).map_err(Trouble::Refused)?;
+    let Some(frame) = bytes.get(..header.bytes) else {
+        let (have, whole) = (bytes.len() as u64, header.bytes as u64);
+        return Err(Trouble::Cut { have, whole });
+    };
+    let status = core::crc_status(frame, header.codec).map_err(Trouble::Refused)?;
+    Ok((header, status))
+}
+
+/// Whether a frame with good checksums begins inside the first one, which has so many bytes.
+fn holds_another(bytes: &[u8], first: usize) -> bool {
+    let mut at = 0;
+    while let Some(rest) = bytes.get(at..).filter(|_| at < first) {
+        if at > 0 && whole(rest).is_ok_and(|(_, status)| status.is_good()) {
+            return true;
+        }
+        at += next_sync(rest);
+    }
+    false
+}
+
+/// How far it is from these bytes' first to the next that may begin a frame: a sync word, or half of one
+/// at the end.
+fn next_sync(bytes: &[u8]) -> usize {
+    let mut at = 1;
+    while let Some(more) = bytes.iter().skip(at).position(|byte| *byte == SYNC[0]) {
+        at += more;
+        if bytes.get(at + 1).is_none_or(|byte| *byte == SYNC[1]) {
+            return at;
+        }
+        at += 1;
+    }
+    bytes.len()
+}
+
+#[cfg(test)]
+mod tests;

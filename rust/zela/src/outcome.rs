@@ -1,0 +1,74 @@
+//! How a run ends: the exit status, and what is said on standard error.
+
+use std::ffi::OsStr;
+use std::fmt::Display;
+use std::io::{self, ErrorKind, Write};
+use std::process::ExitCode;
+
+/// The exit status; of several the greatest is the run's.
+#[derive(Clone, Copy, Debug, PartialEq, Eq, PartialOrd, Ord)]
+pub enum Outcome {
+    Good = 0,
+    /// Damage was found, or the core refused.
+    Damage = 1,
+    Usage = 2,
+    /// Input or output failed.
+    Io = 3,
+}
+
+impl From<Outcome> for ExitCode {
+    fn from(outcome: Outcome) -> ExitCode {
+        ExitCode::from(outcome as u8)
+    }
+}
+
+/// Why a run, or a file's part of it, came to nothing.
+#[derive(Debug)]
+pub struct Failure {
+    pub outcome: Outcome,
+    /// Empty where nothing is to be said.
+    pub words: String,
+}
+
+impl Failure {
+    pub fn new(outcome: Outcome, words: impl Display) -> Failure {
+        let words = words.to_string();
+        Failure { outcome, words }
+    }
+
+    /// A failed read or write of the thing that is named. A reader of our output that is gone, as with
+    /// `zela .. | head`, needs no word.
+    pub fn io(name: impl Display, error: &io::Error) -> Failure {
+        let words = match error.kind() {
+            ErrorKind::BrokenPipe => String::new(),
+            _ => format!("{name}: {error}"),
+        };
+        Failure::new(Outcome::Io, words)
+    }
+
+    /// Says it on standard error.
+    pub fn tell(&self) -> Outcome {
+        if !self.words.is_empty() {
+            say(&format!("zela: {}", self.words));
+        }
+        self.outcome
+    }
+}
+
+/// A line on standard error; where that is closed there is nobody to tell.
+pub fn say(line: &str) {
+    let _ = writeln!(io::stderr(), "{line}");
+}
+
+/// Writes a report to standard output.
+pub fn print(text: &str) -> Result<(), Failure> {
+    let mut out = io::stdout().lock();
+    out.write_all(text.as_bytes())
+        .and_then(|()| out.flush())
+        .map_err(|e| Failure::io("standard output", &e))
+}
+
+/// A file's name for people and reports; what is not UTF-8 in it is replaced.
+pub fn name(file: &OsStr) -> String {
+    file.to_string_lossy().into_owned()
+}

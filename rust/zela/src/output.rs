@@ -1,0 +1,114 @@
+//! What is written: a file that takes its place at once when all is there, or a stream.
+
+use crate::outcome::{name, Failure};
+use std::ffi::OsStr;
+use std::fs::{self, File, OpenOptions, Permissions};
+use std::io::{self, BufWriter, ErrorKind, Stdout, Write};
+use std::path::{Path, PathBuf};
+use std::process;
+
+/// An output that is begun. Where it is never finished, an old file is still as it was.
+pub struct Output {
+    writer: BufWriter<Sink>,
+    draft: Option<Draft>,
+    name: String,
+}
+
+enum Sink {
+    File(File),
+    Standard(Stdout),
+}
+
+/// A file beside the one whose place it will take.
+struct Draft {
+    at: PathBuf,
+    place: PathBuf,
+}
+
+/// A draft that has taken its place is no longer there to be removed.
+impl Drop for Draft {
+    fn drop(&mut self) {
+        let _ = fs::remove_file(&self.at);
+    }
+}
+
+impl Output {
+    /// Begins to write a file, or standard output for `-`.
+    pub fn begin(to: &OsStr) -> Result<Output, Failure> {
+        if to == "-" {
+            let sink = Sink::Standard(io::stdout());
+            return Ok(Output::over(sink, None, "standard output".to_string()));
+        }
+        open(to).map_err(|e| Failure::io(name(to), &e))
+    }
+
+    fn over(sink: Sink, draft: Option<Draft>, name: String) -> Output {
+        Output {
+            writer: BufWriter::new(sink),
+            draft,
+            name,
+        }
+    }
+
+    pub fn write(&mut self, bytes: &[u8]) -> Result<(), Failure> {
+        let written = self.writer.write_all(bytes);
+        written.map_err(|e| Failure::io(&self.name, &e))
+    }
+
+    /// All is written: the draft takes its place.
+    pub fn finish(mut self) -> Result<(), Failure> {
+        let settled = self.settle();
+        settled.map_err(|e| Failure::io(&self.name, &e))
+    }
+
+    fn settle(&mut self) -> io::Result<()> {
+        self.writer.flush()?;
+        let (Sink::File(file), Some(draft)) = (self.writer.get_ref(), &self.draft) else {
+            return Ok(());
+        };
+        file.sync_all()?;
+        fs::rename(&draft.at, &draft.place)
+    }
+}
+
+fn open(to: &OsStr) -> io::Result<Output> {
+    match fs::metadata(to) {
+        // The file that a link leads to is replaced, and not the link.
+        Ok(old) if old.is_file() => draft(&fs::canonicalize(to)?, Some(old.permissions())),
+        Err(e) if e.kind() == ErrorKind::NotFound => draft(Path::new(to), None),
+        Err(e) => Err(e),
+        // A pipe or a device has no old content to keep, and a folder can't be opened so.
+        Ok(_) => {
+            let file = OpenOptions::new().write(true).open(to)?;
+            Ok(Output::over(Sink::File(file), None, name(to)))
+        }
+    }
+}
+
+fn draft(place: &Path, permissions: Option<Permissions>) -> io::Result<Output> {
+    let at = place.with_file_name(format!(".zela-{}.tmp", process::id()));
+    let file = OpenOptions::new().write(true).create_new(true).open(&at)?;
+    let place = place.to_path_buf();
+    let draft = Draft { at, place };
+    if let Some(permissions) = permissions {
+        file.set_permissions(permissions)?;
+    }
+    let name = name(draft.place.as_os_str());
+    Ok(Output::over(Sink::File(file), Some(draft), name))
+}
+
+impl Write for Sink {
+    fn write(&mut self, bytes: &[u8]) -> io::Result<usize> {
+        match self {
+            Sink::File(file) => file.write(bytes),
+            Sink::Standard(out) => out.write(bytes),
+        }
+    }
+
+    fn flush(&mut self) -> io::Result<()> {
+        match self {
+            Sink::File(file) => file.flush(),
+            Sink::Standard(out) => out.flush(),
+        }
+    }
+}

@@ -1,0 +1,210 @@
+//! `zela repair`: the whole frames of a file, each with good checksums.
+
+use crate::args::Shown;
+use crate::core;
+use crate::frames::{Frame, Frames, Item};
+use crate::input::{spoken, Input};
+use crate::outcome::{name, print, say, Failure, Outcome};
+use crate::output::Output;
+use crate::report::{report, Side, Told, Value};
+use crate::trouble::{bad_values, Bad, Place, Trouble, BAD_KEYS};
+use std::ffi::OsStr;
+use std::fs;
+use std::os::unix::fs::MetadataExt;
+
+/// Repairs one file into another.
+pub fn run(from: &OsStr, to: &OsStr, shown: Shown) -> Result<Outcome, Failure> {
+    if from != "-" && are_same(from, to) {
+        let words = format!("{}: IN and OUT are the same file; use --in-place", name(to));
+        return Err(Failure::new(Outcome::Usage, words));
+    }
+    let input = Input::open(from)?.with_progress(from, shown);
+    let mut output = Output::begin(to)?;
+    let mut done = rewrite(from, input, &mut output)?;
+    if done.frames > 0 {
+        output.finish()?;
+        done.written = true;
+    }
+    done.out = name(to);
+    done.tell(shown)
+}
+
+/// Repairs a file itself. Nothing of it may be lost, so that it is replaced only where all of it is
+/// repaired; and only where there was something to repair.
+pub fn run_in_place(file: &OsStr, shown: Shown) -> Result<Outcome, Failure> {
+    let known = fs::metadata(file).map_err(|e| Failure::io(name(file), &e))?;
+    if !known.is_file() {
+        let words = format!("{}: is not a plain file", name(file));
+        return Err(Failure::new(Outcome::Io, words));
+    }
+    let input = Input::open(file)?.with_progress(file, shown);
+    let mut output = Output::begin(file)?;
+    let mut done = rewrite(file, input, &mut output)?;
+    if done.repaired > 0 && done.bad.is_none() {
+        output.finish()?;
+        done.written = true;
+    }
+    done.out = name(file);
+    done.tell(shown)
+}
+
+/// Whether both names lead to one file.
+fn are_same(one: &OsStr, other: &OsStr) -> bool {
+    match (fs::metadata(one), fs::metadata(other)) {
+        (Ok(one), Ok(other)) => (one.dev(), one.ino()) == (other.dev(), other.ino()),
+        _ => false,
+    }
+}
+
+fn rewrite(from: &OsStr, input: Input, output: &mut Output) -> Result<Done, Failure> {
+    let mut frames = Frames::new(input);
+    let mut done = Done::of(name(from));
+    let failed = |e| Failure::io(spoken(from), &e);
+    while let Some((place, item)) = frames.next().map_err(failed)? {
+        match item {
+            Item::Frame(frame) => done.put(place, &frame, output)?,
+            Item::Gap(gap) => done.leave_out(place, gap.bytes, gap.trouble),
+        }
+    }
+    if let (0, None, Err(refusal)) = (done.frames, done.bad, core::probe(&[])) {
+        done.leave_out(Place::default(), 0, Trouble::Refused(refusal));
+    }
+    Ok(done)
+}
+
+/// A frame with its checksums made good. One that is so short that they stand in its header, which then
+/// says something else, can't be repaired.
+fn repaired(frame: &Frame<'_>) -> Result<Vec<u8>, Trouble> {
+    let mut bytes = frame.bytes.to_vec();
+    core::repair(&mut bytes, frame.codec).map_err(Trouble::Refused)?;
+    let header = core::probe(&bytes).map_err(Trouble::Refused)?;
+    match header.bytes == bytes.len() {
+        true => Ok(bytes),
+        false => Err(Trouble::Checksum(frame.status)),
+    }
+}
+
+/// What was done.
+struct Done {
+    file: String,
+    out: String,
+    written: bool,
+    frames: u64,
+    repaired: u64,
+    left_out: u64,
+    /// The first place that could not be repaired.
+    bad: Option<Bad>,
+}
+
+impl Done {
+    fn of(file: String) -> Done {
+        Done {
+            file,
+            out: String::new(),
+            written: false,
+            frames: 0,
+            repaired: 0,
+            left_out: 0,
+            bad: None,
+        }
+    }
+
+    /// Writes a frame with good checksums, or leaves it out.
+    fn put(&mut self, place: Place, frame: &Frame<'_>, output: &mut Output) -> Result<(), Failure> {
+        if frame.status.is_good() {
+            self.frames += 1;
+            return output.write(frame.bytes);
+        }
+        match repaired(frame) {
+            Ok(bytes) => {
+                self.frames += 1;
+                self.repaired += 1;
+                output.write(&bytes)
+            }
+            Err(trouble) => {
+                self.leave_out(place, frame.bytes.len() as u64, trouble);
+                Ok(())
+            }
+        }
+    }
+
+    fn leave_out(&mut self, place: Place, bytes: u64, trouble: Trouble) {
+        self.left_out += bytes;
+        self.bad.get_or_insert(Bad { place, trouble });
+    }
+
+    /// Where the frames go to standard output, the report goes to standard error.
+    fn tell(self, shown: Shown) -> Result<Outcome, Failure> {
+        let outcome = match self.bad {
+            None => Outcome::Good,
+            Some(_) => Outcome::Damage,
+        };
+        let is_streamed = self.out == "-";
+        let text = report(&[self], shown.format);
+        match (shown.quiet, is_streamed) {
+            (true, _) => {}
+            (false, true) => say(text.trim_end()),
+            (false, false) => print(&text)?,
+        }
+        Ok(outcome)
+    }
+
+    fn result(&self) -> &'static str {
+        match (self.written, self.bad) {
+            (true, _) => "written",
+            (false, None) => "nothing to repair",
+            (false, Some(_)) => "not written",
+        }
+    }
+}
+
+impl Told for Done {
+    const COLUMNS: &'static [(&'static str, Side)] = &[
+        ("file", Side::Left),
+        ("out", Side::Left),
+        ("frames", Side::Right),
+        ("repaired", Side::Right),
+        ("left out", Side::Right),
+        ("result", Side::Left),
+    ];
+
+    fn keys() -> Vec<&'static str> {
+        let own = [
+            "file",
+            "out",
+            "written",
+            "frames",
+            "repaired",
+            "left_out_bytes",
+        ];
+        [&own[..], &BAD_KEYS].concat()
+    }
+
+    fn values(&self) -> Vec<Value> {
+        let mut values = vec![
+            Value::Text(self.file.clone()),
+            Value::Text(self.out.clone()),
+            Value::Flag(self.written),
+            Value::Number(self.frames),
+            Value::Number(self.repaired),
+            Value::Number(self.left_out),
+        ];
+        values.extend(bad_values(self.bad));
+        values
+    }
+
+    fn cells(&self) -> Vec<String> {
+        vec![
+            self.file.clone(),
+            self.out.clone(),
+            self.frames.to_string(),
+            self.repaired.to_string(),
+            self.left_out.to_string(),
+            self.result().to_string(),
+        ]
+    }
+
+    fn note(&self) -> Option<String> {
+        self.bad.map(|bad| format!("can't be repaired: {bad}"))
+    }
+}

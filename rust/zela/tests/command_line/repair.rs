@@ -1,0 +1,269 @@
+//! `zela repair`: what is written, and what stays as it was.
+
+use crate::room::{ac3, eac3, noise, wrong, Ran, Room};
+use std::fs;
+use std::os::unix::fs::{symlink, FileTypeExt, MetadataExt, PermissionsExt};
+use std::process::{Command, Stdio};
+
+/// Repairs `in` to `out`, and gives what `out` holds.
+#[track_caller]
+fn repairs(room: &Room, status: i32, table: &str) -> Vec<u8> {
+    room.writes(&["repair", "in", "out"], status, table, "");
+    assert_eq!(room.list(), ["in", "out"]);
+    let check = room.run(&["check", "-q", "out"]);
+    assert_eq!(check.status, 0, "what was written is not good");
+    room.get("out")
+}
+
+#[test]
+fn wrong_checksums_are_made_good() {
+    let room = Room::of("wrong_checksums");
+    // crc1 of the second frame, crc2 of the third.
+    room.put("in", &wrong(wrong(ac3(), 258, 0xFF), 766, 0xFF));
+    let table = "\
+file  out  frames  repaired  left out  result
+in    out      13         2         0  written
+";
+    assert_eq!(repairs(&room, 0, table), ac3());
+}
+
+#[test]
+fn an_edit_stays() {
+    let room = Room::of("an_edit");
+    // dialnorm of the first frame.
+    let edited = wrong(eac3(), 6, 0x10);
+    room.put("in", &edited);
+    let table = "\
+file  out  frames  repaired  left out  result
+in    out      13         1         0  written
+";
+    let out = repairs(&room, 0, table);
+    assert_eq!(out[..254], edited[..254]);
+    assert_ne!(out[254..256], edited[254..256]);
+    assert_eq!(out[256..], edited[256..]);
+}
+
+#[test]
+fn a_good_file_is_copied() {
+    let room = Room::of("a_good_file");
+    let bytes = [ac3(), eac3()].concat();
+    room.put("in", &bytes);
+    let table = "\
+file  out  frames  repaired  left out  result
+in    out      26         0         0  written
+";
+    assert_eq!(repairs(&room, 0, table), bytes);
+}
+
+#[test]
+fn what_is_no_whole_frame_is_left_out() {
+    let room = Room::of("left_out");
+    let parts = [&noise(100), &ac3()[..612], &eac3()[..900]];
+    room.put("in", &parts.concat());
+    let table = "\
+file  out  frames  repaired  left out  result
+in    out       5         0       332  written
+    can't be repaired: byte 0, 00:00:00.000: refusal 2, the first 16 bits aren't 0x0B77
+";
+    let whole = [&ac3()[..512], &eac3()[..768]].concat();
+    assert_eq!(repairs(&room, 1, table), whole);
+}
+
+#[test]
+fn a_frame_whose_checksum_is_its_header_is_left_out() {
+    let room = Room::of("its_header");
+    // frmsiz 1 and 2: E-AC-3 frames of 4 and 6 bytes.
+    let four = [0x0B, 0x77, 0, 1];
+    let six = [0x0B, 0x77, 0, 2, 0, 0x80];
+    room.put(
+        "in",
+        &[&four, &eac3()[..256], &six, &eac3()[256..]].concat(),
+    );
+    let table = "\
+file  out  frames  repaired  left out  result
+in    out      13         0        10  written
+    can't be repaired: byte 0, 00:00:00.000: refusal 3, under 6 bytes of header
+";
+    assert_eq!(repairs(&room, 1, table), eac3());
+}
+
+#[test]
+fn without_a_frame_nothing_is_written() {
+    let room = Room::of("without_a_frame");
+    let cases = [
+        (
+            noise(5000),
+            "5000",
+            "refusal 2, the first 16 bits aren't 0x0B77",
+        ),
+        (vec![], "   0", "refusal 3, under 6 bytes of header"),
+        (
+            ac3()[..200].to_vec(),
+            " 200",
+            "refusal 1, the frame breaks off after 200 of 256 bytes",
+        ),
+    ];
+    for (bytes, left_out, why) in cases {
+        room.put("in", &bytes);
+        room.put("out", b"old");
+        let table = format!(
+            "\
+file  out  frames  repaired  left out  result
+in    out       0         0      {left_out}  not written
+    can't be repaired: byte 0, 00:00:00.000: {why}
+"
+        );
+        room.writes(&["repair", "in", "out"], 1, &table, "");
+        assert_eq!(room.get("out"), b"old");
+        assert_eq!(room.list(), ["in", "out"]);
+    }
+}
+
+#[test]
+fn in_place_only_when_asked() {
+    let room = Room::of("in_place");
+    room.put("a.ac3", &wrong(ac3(), 700, 1));
+    let err = "zela: ./a.ac3: IN and OUT are the same file; use --in-place\n";
+    room.writes(&["repair", "a.ac3", "./a.ac3"], 2, "", err);
+    assert_eq!(room.get("a.ac3"), wrong(ac3(), 700, 1));
+    let table = "\
+file   out    frames  repaired  left out  result
+a.ac3  a.ac3      13         1         0  written
+";
+    room.writes(&["repair", "--in-place", "a.ac3"], 0, table, "");
+    assert_eq!(room.get("a.ac3")[700], ac3()[700] ^ 1);
+    room.writes(&["check", "-q", "a.ac3"], 0, "", "");
+    assert_eq!(room.list(), ["a.ac3"]);
+}
+
+#[test]
+fn in_place_a_good_file_is_not_touched() {
+    let room = Room::of("not_touched");
+    room.put("a.ac3", &ac3());
+    let before = fs::metadata(room.path("a.ac3")).unwrap();
+    let table = "\
+file   out    frames  repaired  left out  result
+a.ac3  a.ac3      13         0         0  nothing to repair
+";
+    room.writes(&["repair", "-i", "a.ac3"], 0, table, "");
+    let after = fs::metadata(room.path("a.ac3")).unwrap();
+    assert_eq!(before.ino(), after.ino());
+    assert_eq!(before.modified().unwrap(), after.modified().unwrap());
+    assert_eq!(room.list(), ["a.ac3"]);
+}
+
+#[test]
+fn in_place_nothing_is_lost() {
+    let room = Room::of("nothing_is_lost");
+    let damaged = wrong(ac3(), 300, 1)[..1000].to_vec();
+    room.put("a.ac3", &damaged);
+    let table = "\
+file   out    frames  repaired  left out  result
+a.ac3  a.ac3       3         1       232  not written
+    can't be repaired: byte 768, 00:00:00.096: refusal 1, the frame breaks off after 232 of 256 bytes
+";
+    room.writes(&["repair", "-i", "a.ac3"], 1, table, "");
+    assert_eq!(room.get("a.ac3"), damaged);
+    assert_eq!(room.list(), ["a.ac3"]);
+}
+
+#[test]
+fn in_place_there_must_be_a_file() {
+    let room = Room::of("must_be_a_file");
+    let missing = "zela: in: No such file or directory (os error 2)\n";
+    room.writes(&["repair", "-i", "in"], 3, "", missing);
+    let folder = "zela: .: is not a plain file\n";
+    room.writes(&["repair", "-i", "."], 3, "", folder);
+    assert!(room.list().is_empty());
+}
+
+#[test]
+fn a_failure_leaves_the_old_file() {
+    let room = Room::of("a_failure");
+    room.put("out", b"old");
+    let missing = "zela: in: No such file or directory (os error 2)\n";
+    room.writes(&["repair", "in", "out"], 3, "", missing);
+    assert_eq!(room.get("out"), b"old");
+    fs::create_dir(room.path("in")).unwrap();
+    let folder = "zela: in: Is a directory (os error 21)\n";
+    room.writes(&["repair", "in", "out"], 3, "", folder);
+    assert_eq!(room.get("out"), b"old");
+    assert_eq!(room.list(), ["in", "out"]);
+}
+
+#[test]
+fn a_write_that_fails_leaves_the_old_file() {
+    let room = Room::of("a_write_that_fails");
+    room.put("in", &ac3().repeat(100));
+    room.put("out", b"old");
+    // No file may grow past some kilobytes.
+    let shell = "trap '' XFSZ; ulimit -f 8; exec \"$0\" repair in out";
+    let mut command = Command::new("sh");
+    command.args(["-c", shell, env!("CARGO_BIN_EXE_zela")]);
+    let ran = Ran::of(command.current_dir(room.path("")).output().unwrap());
+    assert_eq!((ran.status, ran.out.as_str()), (3, ""));
+    assert!(
+        ran.err.ends_with("out: File too large (os error 27)\n"),
+        "{}",
+        ran.err
+    );
+    assert_eq!(room.get("out"), b"old");
+    assert_eq!(room.list(), ["in", "out"]);
+}
+
+#[test]
+fn an_output_that_cannot_be() {
+    let room = Room::of("cannot_be");
+    room.put("in", &ac3());
+    let none = "zela: none/out: No such file or directory (os error 2)\n";
+    room.writes(&["repair", "in", "none/out"], 3, "", none);
+    fs::create_dir(room.path("folder")).unwrap();
+    let folder = "zela: folder: Is a directory (os error 21)\n";
+    room.writes(&["repair", "in", "folder"], 3, "", folder);
+    if fs::exists("/dev/full").unwrap() {
+        let full = "zela: /dev/full: No space left on device (os error 28)\n";
+        room.writes(&["repair", "in", "/dev/full"], 3, "", full);
+    }
+    assert_eq!(room.list(), ["folder", "in"]);
+}
+
+#[test]
+fn standard_input_and_output() {
+    let room = Room::of("standard");
+    let input = wrong(eac3(), 254, 1);
+    let mut command = room.command(&["repair", "-", "-"]);
+    command.stdin(Stdio::piped()).stdout(Stdio::piped());
+    let mut child = command.stderr(Stdio::piped()).spawn().unwrap();
+    std::io::Write::write_all(&mut child.stdin.take().unwrap(), &input).unwrap();
+    let ran = child.wait_with_output().unwrap();
+    assert_eq!(ran.stdout, eac3());
+    let table = "\
+file  out  frames  repaired  left out  result
+-     -        13         1         0  written
+";
+    assert_eq!(String::from_utf8(ran.stderr).unwrap(), table);
+    assert_eq!(ran.status.code(), Some(0));
+}
+
+#[test]
+fn a_link_and_the_mode_stay() {
+    let room = Room::of("a_link");
+    room.put("in", &ac3());
+    room.put("real", b"old");
+    fs::set_permissions(room.path("real"), fs::Permissions::from_mode(0o640)).unwrap();
+    symlink("real", room.path("out")).unwrap();
+    room.writes(&["repair", "-q", "in", "out"], 0, "", "");
+    assert_eq!(room.get("real"), ac3());
+    let known = |file| fs::symlink_metadata(room.path(file)).unwrap();
+    assert!(known("out").is_symlink());
+    assert_eq!(known("real").permissions().mode() & 0o777, 0o640);
+}
+
+#[test]
+fn a_device_is_written_to_and_stays() {
+    let room = Room::of("a_device");
+    room.put("in", &ac3());
+    room.writes(&["repair", "-q", "in", "/dev/null"], 0, "", "");
+    let null = fs::metadata("/dev/null").unwrap();
+    assert!(null.file_type().is_char_device());
+}

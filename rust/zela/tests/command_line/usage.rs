@@ -1,0 +1,123 @@
+//! Help, version and misuse.
+
+use crate::room::{ac3, Room};
+
+const MANUAL: &str = include_str!("../../zela.1");
+
+#[track_caller]
+fn misuses(words: &[&str], err: &str) {
+    let room = Room::of(&format!("misuse_{}", words.concat().replace('/', "_")));
+    let err = format!("zela: {err}\nTry 'zela --help'.\n");
+    room.writes(words, 2, "", &err);
+}
+
+#[test]
+fn misuse_is_told_and_has_status_2() {
+    misuses(&[], "a command is missing: check, repair or bits");
+    misuses(&["chek", "a"], "no such command: chek");
+    misuses(&["a.ac3"], "no such command: a.ac3");
+    misuses(&["check"], "check takes one file or more");
+    misuses(&["check", "--all", "a"], "no such option: --all");
+    misuses(&["check", "-x"], "no such option: -x");
+    misuses(&["check", "-i", "a"], "--in-place goes with repair alone");
+    misuses(&["check", "-", "-"], "standard input can be read once");
+    misuses(
+        &["check", "a", "--format"],
+        "--format takes text, json or csv",
+    );
+    misuses(
+        &["check", "a", "--format", "xml"],
+        "--format takes text, json or csv",
+    );
+    misuses(
+        &["check", "a", "--format="],
+        "--format takes text, json or csv",
+    );
+}
+
+#[test]
+fn misuse_of_repair_and_bits_has_status_2_too() {
+    misuses(
+        &["repair", "a"],
+        "repair takes two files, or one with --in-place",
+    );
+    misuses(
+        &["repair", "a", "b", "c"],
+        "repair takes two files, or one with --in-place",
+    );
+    misuses(&["repair", "-i"], "repair --in-place takes one file");
+    misuses(
+        &["repair", "-i", "a", "b"],
+        "repair --in-place takes one file",
+    );
+    misuses(&["repair", "-i", "-"], "standard input has no place");
+    misuses(
+        &["bits", "a", "0"],
+        "bits takes a file, a position and a width",
+    );
+    misuses(&["bits", "a", "x", "1"], "POS is not a number of bits: x");
+    misuses(&["bits", "a", "0", "-1"], "no such option: -1");
+    misuses(&["bits", "a", "0", ""], "WIDTH is not a number of bits: ");
+    misuses(
+        &["bits", "-q", "a", "0", "1"],
+        "--quiet does not go with bits",
+    );
+}
+
+#[test]
+fn the_version_is_the_crates() {
+    let room = Room::of("the_version");
+    let version = format!("zela {}\n", env!("CARGO_PKG_VERSION"));
+    room.writes(&["--version"], 0, &version, "");
+    room.writes(&["check", "-V"], 0, &version, "");
+}
+
+#[test]
+fn help_names_each_command() {
+    let room = Room::of("help");
+    let help = room.run(&["--help"]);
+    assert_eq!((help.status, help.err.as_str()), (0, ""));
+    for usage in ["zela check", "zela repair", "zela bits"] {
+        assert!(help.out.contains(usage), "{usage}");
+    }
+    assert_eq!(room.run(&["repair", "-h"]), help);
+}
+
+/// The manual without its marks.
+fn manual() -> String {
+    let marks = ["\\fB", "\\fR"];
+    let text = MANUAL.replace("\\-", "-");
+    marks.iter().fold(text, |text, mark| text.replace(mark, ""))
+}
+
+#[test]
+fn the_manual_is_of_this_version_and_has_each_option() {
+    let room = Room::of("the_manual");
+    let manual = manual();
+    assert!(manual.contains(concat!("\"zela ", env!("CARGO_PKG_VERSION"), "\"")));
+    let help = room.run(&["--help"]).out;
+    let is_edge = |sign: char| !(sign.is_alphanumeric() || sign == '-');
+    let words = help.split(is_edge);
+    for word in words.filter(|word| word.len() > 1 && word.starts_with('-')) {
+        assert!(manual.contains(word), "{word}");
+    }
+}
+
+#[test]
+fn the_manual_has_each_key() {
+    let room = Room::of("keys_of_the_manual");
+    room.put("a", &ac3());
+    let runs: [&[&str]; 3] = [
+        &["check", "a"],
+        &["repair", "a", "b"],
+        &["bits", "a", "0", "1"],
+    ];
+    let manual = manual();
+    for words in runs {
+        let csv = room.run(&[words, &["--format", "csv"]].concat()).out;
+        for key in csv.lines().next().unwrap().split(',') {
+            let is_key = |word: &str| word.trim_end_matches([',', '.']) == key;
+            assert!(manual.split_whitespace().any(is_key), "{key}");
+        }
+    }
+}
