@@ -371,15 +371,33 @@ static void lend_array(enum kind kind) {
     }
 }
 
-/* A number as its register has it: the callee's type fits it. */
+/* Numbers that stand alone: the most that a good one is, and the bits of its type. */
+static const struct {
+    uint32_t most;
+    uint8_t bits;
+} numbers[] = {
+    [WIDTH] = {32, 64},
+    [SLOT] = {6, 64},
+    [SMALL_SLOT] = {6, 8},
+    [STRATEGY] = {3, 8},
+    [DELTBAE] = {2, 32},
+    [FSCOD] = {2, 8},
+    [FLAG] = {1, 1},
+    [LEAK] = {7, 8},
+    [SEGMENTS] = {8, 8},
+    [ROLE] = {52, 32},
+    [HALF] = {UINT16_MAX, 16},
+    [WORD] = {UINT32_MAX, 32},
+    [ANY_SIZE] = {MOST, 64},
+};
+
+/* A number as a register has it: no more bits than its type has, and the sign of one that has a sign. */
 static word number_of(enum kind kind) {
     switch (kind) {
     case AT:
         return mutated(good.pos);
     case LIMIT:
         return mutated(one_of(8) ? to(good.limit) : good.limit);
-    case WIDTH:
-        return mutated(to(32));
     case LONG_WIDTH:
         return mutated(to(good.limit - good.pos));
     case ELEMENTS:
@@ -392,34 +410,12 @@ static word number_of(enum kind kind) {
         return mutated(good.start);
     case END:
         return mutated(good.end);
-    case SLOT:
-        return mutated(to(6));
-    case SMALL_SLOT:
-        return (uint8_t)mutated(to(6));
-    case STRATEGY:
-        return (uint8_t)mutated(1 + to(2));
-    case DELTBAE:
-        return (uint32_t)mutated(to(3));
-    case FSCOD:
-        return (uint8_t)mutated(to(2));
-    case FLAG:
-        return one_of(2);
-    case LEAK:
-        return (uint8_t)mutated(to(7));
-    case SEGMENTS:
-        return (uint8_t)mutated(to(8));
     case BLOCK:
         return (word)(int64_t)(int8_t)random_bits();
     case INDEX:
         return (word)(int64_t)(int16_t)random_bits();
-    case ROLE:
-        return (uint32_t)mutated(to(52));
-    case HALF:
-        return (uint16_t)random_bits();
-    case WORD:
-        return (uint32_t)random_bits();
     default:
-        return mutated(to(MOST));
+        return mutated(to(numbers[kind].most)) & UINT64_MAX >> (64 - numbers[kind].bits);
     }
 }
 
