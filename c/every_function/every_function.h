@@ -4,7 +4,8 @@
 
 #include "../lent.h"
 
-/* The parts. Each calls its functions once or more as it should be, and once for each reason to refuse that the header names. */
+/* The parts. Each calls its functions once or more as it should be, and once for each reason to refuse that the header
+ * names. */
 void bits(void);
 void crc_and_roles(void);
 void syntax(void);

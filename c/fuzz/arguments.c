@@ -75,7 +75,7 @@ static void fill_frame(uint8_t *bytes, size_t len) {
     }
     size_t from = to(samples_len - len), last = samples_len - len;
     if (one_of(2)) {
-        while (from < last && (samples[from] != 0x0B || samples[from + 1] != 0x77)) {
+        while (from + 1 < last && (samples[from] != 0x0B || samples[from + 1] != 0x77)) {
             from++;
         }
     }
@@ -85,19 +85,18 @@ static void fill_frame(uint8_t *bytes, size_t len) {
     }
 }
 
-/* A log whose elements tile the bits up to the cursor, at times with another word among them. */
-static void fill_log(uint32_t *words) {
+/* A log of so many words whose elements tile the bits up to the cursor, at times with another word among them. */
+static void fill_log(uint32_t *log, size_t count) {
     size_t at = 0;
-    memset(words, STALE, good.elements * WORDS * sizeof *words);
     for (size_t k = 0; k < good.count; k++) {
         size_t width = k + 1 < good.count ? to(least(good.pos - at, 40)) : good.pos - at;
-        words[k * WORDS + 4] = (uint32_t)at;
-        words[k * WORDS + 5] = (uint32_t)width;
+        log[k * WORDS + 4] = (uint32_t)at;
+        log[k * WORDS + 5] = (uint32_t)width;
         at += width;
     }
-    if (good.count > 0 && one_of(4)) {
-        size_t word_at = to(good.count * WORDS - 1);
-        words[word_at] = (uint32_t)mutated(to(64));
+    if (count > 0 && one_of(4)) {
+        size_t other = to(count - 1);
+        log[other] = (uint32_t)mutated(to(64));
     }
 }
 
@@ -179,8 +178,9 @@ static void lend_counted(enum kind kind) {
         fill_frame(lend_kind(kind, count, kind == CHANGED_BYTES), count);
     } else if (kind == LOG || kind == READ_LOG) {
         count = good.elements * WORDS;
-        fill_log(lend_kind(kind, count * sizeof(uint32_t), kind == LOG));
+        /* A last element without its last word is none. */
         count -= count > 0 && one_of(16);
+        fill_log(lend_kind(kind, count * sizeof(uint32_t), kind == LOG), count);
     } else if (kind == HEARING) {
         count = table_len(150);
         uint16_t *hearing = lend_kind(kind, count * sizeof *hearing, false);

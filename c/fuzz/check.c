@@ -80,8 +80,8 @@ static void check_room(uint8_t number, enum kind kind, const struct lent *is) {
         }
     } else if (refused && (kind == CHANGED_BYTES || kind == STATE) && !same) {
         fail("refused, and bytes or a state are changed");
-    } else if (number == ZELA_BAD_ARGUMENT && is->writing && !same) {
-        fail("refused with 6, and the place, the log or the groups are changed");
+    } else if (refused && !(function->moved & R(number)) && is->writing && !same) {
+        fail("refused at once, and the place, the log or the groups are changed");
     }
 }
 

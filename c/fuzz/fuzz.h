@@ -41,11 +41,12 @@ typedef uint8_t any(word, word, word, word, word, word, word, word, word, word, 
 /* The bit of a refusal's number in a set of them. */
 #define R(number) (UINT32_C(1) << (number))
 
-/* A function, the numbers that it may refuse with, and its arguments. */
+/* A function, the numbers that it may refuse with, those of them with which a cursor or groups may have moved on before
+ * the refusal, and its arguments. */
 struct function {
     const char *name;
     any *call;
-    uint32_t refusals;
+    uint32_t refusals, moved;
     uint8_t arguments[ARGUMENTS];
 };
 enum { FUNCTIONS = 26 };
