@@ -3,22 +3,22 @@
 
 static const uint8_t two[2] = {0x12, 0x34};
 
-static void bits_get(size_t pos, size_t n, uint8_t number, uint32_t value) {
+static void bits_get(size_t from, size_t n, uint8_t number, uint32_t value) {
     function = "zela_bits_get";
     lend_nothing();
     const uint8_t *bytes = READ(two);
     uint32_t *found = FILLED(uint32_t);
     ready();
-    ANSWERED(zela_bits_get(bytes, sizeof two, pos, n, found, bit), number, 0);
+    ANSWERED(zela_bits_get(bytes, sizeof two, from, n, found, bit), number, 0);
     EXPECT(*found == value);
 }
 
-static void bits_set(size_t pos, size_t n, uint8_t number, uint8_t first, uint8_t second) {
+static void bits_set(size_t from, size_t n, uint8_t number, uint8_t first, uint8_t second) {
     function = "zela_bits_set";
     lend_nothing();
     uint8_t *bytes = CHANGED(two);
     ready();
-    ANSWERED(zela_bits_set(bytes, sizeof two, pos, n, 0xFAB, bit), number, 0);
+    ANSWERED(zela_bits_set(bytes, sizeof two, from, n, 0xFAB, bit), number, 0);
     EXPECT(bytes[0] == first && bytes[1] == second);
 }
 
