@@ -1,0 +1,279 @@
+//! Exponents, side information, block allocation and mantissa walks.
+
+use crate::alloc::{exponents, first, DeltaSeg, Params};
+use crate::error::{refused, unfit, unsupported, Result};
+use crate::lent;
+use crate::syntax::{Cursor, WORDS};
+use zelamodurk::alloc::{Bin, Delta, Pointers, Segment, BINS, SEGMENTS};
+use zelamodurk::blocks::{self as core, Slot, State};
+use zelamodurk::exponents::{self as sets, Ask};
+use zelamodurk::{aht as ahts, walks, Refusal, Why};
+
+/// The slot of coupling; 0 to 4 are the full bandwidth channels.
+pub const CPL: usize = 5;
+/// The slot of LFE.
+pub const LFE: usize = 6;
+/// How many slots there are.
+pub const SLOTS: usize = 7;
+
+/// The most elements of an exponent set, and of a slot's segments.
+const SET: usize = 1 + BINS / 3;
+const DELTA: usize = 1 + 3 * SEGMENTS;
+
+/// The exponents of a slot, and the range of bins that they were read for.
+#[derive(Clone, Debug, Default)]
+pub struct ExpSet {
+    /// The exponents by bin.
+    pub exp: Vec<i16>,
+    /// The first bin of the range.
+    pub start: usize,
+    /// The bin after the range.
+    pub end: usize,
+}
+
+/// Reads a slot's exponents.
+///
+/// # Errors
+/// In this order: with 6 where the slot is above 6, the strategy not 1 to 3, or the range empty or past bin
+/// 256; then 1, 7 and 8 element by element; 9 where the set ends before the range.
+pub fn read_exponents(
+    cur: &mut Cursor<'_>,
+    slot: usize,
+    strategy: u8,
+    start: usize,
+    end: usize,
+) -> Result<ExpSet> {
+    let ask = Ask {
+        slot: u8::try_from(slot).unwrap_or(u8::MAX),
+        strategy,
+        start: Bin(start),
+        end: Bin(end),
+    };
+    let (mut log, mut set) = ([0; WORDS * SET], sets::ExpSet::default());
+    cur.logging("exponents", &mut log, 0, |frame, log, place| {
+        sets::read_exponents(frame, log, place, &ask, &mut set)
+    })?;
+    Ok(ExpSet {
+        exp: set.exp.iter().map(|exponent| (*exponent).into()).collect(),
+        start: set.start.0,
+        end: set.end.0,
+    })
+}
+
+/// The side information that a frame's blocks carry on.
+#[derive(Clone, Debug, Default)]
+pub struct AllocState {
+    /// sdcycod, fdcycod, sgaincod, dbpbcod and floorcod.
+    pub bai: Option<[u8; 5]>,
+    /// The coarse SNR offset.
+    pub csnroffst: Option<u8>,
+    /// The fine SNR offset of each slot.
+    pub fsnroffst: [u8; SLOTS],
+    /// The fast gain of each slot.
+    pub fgaincod: [u8; SLOTS],
+    /// The fast and the slow leak of coupling.
+    pub cplleak: Option<(u8, u8)>,
+    /// The delta segments of each slot.
+    pub delta: [Vec<DeltaSeg>; SLOTS],
+}
+
+/// Segments in the core's form.
+fn delta(segments: &[DeltaSeg]) -> Delta {
+    let few: Vec<Segment> = segments.iter().map(|segment| segment.segment()).collect();
+    Delta::of(&few)
+}
+
+impl AllocState {
+    /// The parameters, decoded.
+    ///
+    /// # Errors
+    /// With 10 where they were not sent, then with 11 where a code is past its table.
+    pub fn params(&self, fscod: usize) -> Result<Params> {
+        let error = |why| refused("params", unfit(why, 0));
+        let codes = self.bai.ok_or_else(|| error(Why::NotSent))?;
+        Params::of_codes(codes, fscod).ok_or_else(|| error(Why::CodePastTable))
+    }
+
+    /// The core's form.
+    fn state(&self) -> State {
+        let [sdcycod, fdcycod, sgaincod, dbpbcod, floorcod] = self.bai.unwrap_or_default();
+        let (cplfleak, cplsleak) = self.cplleak.unwrap_or_default();
+        State {
+            bai_sent: self.bai.is_some(),
+            sdcycod,
+            fdcycod,
+            sgaincod,
+            dbpbcod,
+            floorcod,
+            csnroffst_sent: self.csnroffst.is_some(),
+            csnroffst: self.csnroffst.unwrap_or_default(),
+            fsnroffst: self.fsnroffst,
+            fgaincod: self.fgaincod,
+            cplleak_sent: self.cplleak.is_some(),
+            cplfleak,
+            cplsleak,
+            delta: std::array::from_fn(|slot| delta(&self.delta[slot])),
+        }
+    }
+
+    /// Takes over a slot's segments after a call that was not refused.
+    fn take(&mut self, slot: usize, state: &State) {
+        if let (Some(to), Some(from)) = (self.delta.get_mut(slot), state.delta.get(slot)) {
+            to.clear();
+            to.extend(from.segments().map(DeltaSeg::of));
+        }
+    }
+
+    /// Reads a slot's segments.
+    ///
+    /// # Errors
+    /// With 6 where the slot is above 6, then with 1 element by element.
+    pub fn read_delta(&mut self, cur: &mut Cursor<'_>, slot: usize) -> Result<()> {
+        let (mut log, mut state) = ([0; WORDS * DELTA], State::default());
+        cur.logging("delta", &mut log, 0, |frame, log, place| {
+            core::read_delta(frame, log, place, &mut state, slot)
+        })?;
+        self.take(slot, &state);
+        Ok(())
+    }
+
+    /// A slot's deltbae code: 2 ends its segments, 0 and 1 leave them.
+    ///
+    /// # Errors
+    /// With 6 where the slot is above 6, then with 15 where the code is 0 in block 0, or above 2.
+    pub fn delta_code(&mut self, slot: usize, code: u32, block0: bool) -> Result<()> {
+        let mut state = State::default();
+        if let (Some(to), Some(from)) = (state.delta.get_mut(slot), self.delta.get(slot)) {
+            *to = delta(from);
+        }
+        let before = state;
+        core::delta_code(&mut state, slot, code, block0).map_err(|e| refused("deltbae", e))?;
+        if state != before {
+            self.take(slot, &state);
+        }
+        Ok(())
+    }
+}
+
+/// What a block asks for a slot.
+pub struct SlotAlloc<'a> {
+    /// The slot.
+    pub slot: usize,
+    /// Its exponents.
+    pub exps: &'a ExpSet,
+    /// The first bin of the range.
+    pub start: usize,
+    /// The bin after the range.
+    pub end: usize,
+    /// Whether the pointers are hebap.
+    pub high_efficiency: bool,
+}
+
+/// A slot's exponents in the core's form. A set is not taken to cover what it has no exponent for.
+fn set_of(exps: &ExpSet) -> sets::ExpSet {
+    sets::ExpSet {
+        exp: exponents(&exps.exp),
+        start: Bin(exps.start),
+        end: Bin(exps.end.min(exps.exp.len())),
+    }
+}
+
+/// The pointers of a block's slots; nothing for a slot that was not asked for.
+///
+/// # Errors
+/// In this order: with 6 where a slot is above 6, or asked for twice; then as the core refuses: 21, 11, 10,
+/// and slot by slot 12, 10, 6, 8.
+pub fn allocate_block(
+    st: &AllocState,
+    fscod: usize,
+    slots: &[SlotAlloc<'_>],
+) -> Result<[Vec<u8>; SLOTS]> {
+    allocated(st, fscod, slots).map_err(|refusal| refused("allocation", refusal))
+}
+
+fn allocated(
+    st: &AllocState,
+    fscod: usize,
+    slots: &[SlotAlloc<'_>],
+) -> std::result::Result<[Vec<u8>; SLOTS], Refusal> {
+    let mut held: [Option<(sets::ExpSet, &SlotAlloc)>; SLOTS] = [const { None }; SLOTS];
+    for asked in slots {
+        match held.get_mut(asked.slot) {
+            Some(room @ None) => *room = Some((set_of(asked.exps), asked)),
+            _ => return Err(unfit(Why::BadArgument, 0)),
+        }
+    }
+    let given = held.each_ref().map(|held| {
+        held.as_ref().map(|(exponents, asked)| Slot {
+            exponents,
+            start: Bin(asked.start),
+            end: Bin(asked.end),
+            pointers: match asked.high_efficiency {
+                true => Pointers::Hebap,
+                false => Pointers::Bap,
+            },
+        })
+    });
+    let fscod = u8::try_from(fscod).unwrap_or(u8::MAX);
+    let mut pointers = [[0; BINS]; SLOTS];
+    core::allocate_block(&st.state(), fscod, &given, &lent::tables(), &mut pointers)?;
+    let mut out: [Vec<u8>; SLOTS] = Default::default();
+    for asked in slots {
+        out[asked.slot] = first(&pointers[asked.slot], asked.end.max(asked.start));
+    }
+    Ok(out)
+}
+
+/// The open groups of codes 1, 2 and 4 in a block.
+#[derive(Default)]
+pub struct Groups(walks::Groups);
+
+/// Codes in the core's form.
+///
+/// # Errors
+/// With 6 where the range passes the codes.
+fn codes(codes: &[u8], end: usize, cur: &Cursor<'_>, what: &str) -> Result<[u8; BINS]> {
+    if end > codes.len() {
+        return Err(refused(what, unfit(Why::BadArgument, cur.pos)));
+    }
+    let (mut all, len) = ([0; BINS], codes.len().min(BINS));
+    all[..len].copy_from_slice(&codes[..len]);
+    Ok(all)
+}
+
+/// Walks over the mantissas of the bins from `start` to `end`.
+///
+/// # Errors
+/// With 6 where the range ends before its start, or past the codes or bin 256; then 13 and 1 bin by bin.
+pub fn conventional(
+    cur: &mut Cursor<'_>,
+    bap: &[u8],
+    start: usize,
+    end: usize,
+    g: &mut Groups,
+) -> Result<()> {
+    let bap = codes(bap, end, cur, "mantissa")?;
+    cur.moving("mantissa", |frame, place| {
+        walks::conventional(frame, place, &bap, Bin(start), Bin(end), &mut g.0)
+    })
+}
+
+/// Walks over one channel's mantissas of all six blocks, and answers how many tags it met.
+///
+/// # Errors
+/// With 6 where the range ends before its start, or past the codes or bin 256; then 1, 14 and 13 where it
+/// stands.
+pub fn aht(cur: &mut Cursor<'_>, hebap: &[u8], start: usize, end: usize) -> Result<usize> {
+    let hebap = codes(hebap, end, cur, "aht")?;
+    cur.moving("aht", |frame, place| {
+        ahts::aht(frame, place, &hebap, Bin(start), Bin(end))
+    })
+}
+
+/// Syntax that a parser does not model.
+///
+/// # Errors
+/// Always.
+pub fn refuse<T>(what: &str) -> Result<T> {
+    unsupported(what)
+}

@@ -1,0 +1,296 @@
+//! Syntax elements: a cursor that keeps every element that it reads, and the check that they tile a frame.
+
+use crate::error::{refused, taken, unfit, Result};
+use zelamodurk::syntax::{self as core, names, Ask, Element, Place};
+use zelamodurk::{Refusal, Why};
+
+pub use zelamodurk::syntax::Role;
+
+/// The words of an element in the core's log.
+pub(crate) const WORDS: usize = 8;
+/// Where an element's position and width stand in them.
+const POS: usize = 4;
+const WIDTH: usize = 5;
+/// The most bits that a cursor of the core looks at.
+const MOST: usize = 32_768;
+/// A name's number that is none of the core's own: the text stays on this side.
+const GIVEN: u32 = 256;
+
+/// An element.
+#[derive(Clone, Debug, PartialEq, Eq)]
+pub struct Field {
+    /// Its name.
+    pub name: &'static str,
+    /// What it means.
+    pub role: Role,
+    /// The audio block, or -1 outside blocks.
+    pub block: i8,
+    /// Channel or array index, or -1 where there is none.
+    pub index: i16,
+    /// Its first bit, from the start of the frame.
+    pub pos: usize,
+    /// How many bits it has.
+    pub width: usize,
+    /// Its bits as a number; 0 for spans.
+    pub value: u32,
+}
+
+impl Field {
+    /// The bit after the element.
+    ///
+    /// # Panics
+    /// With 6 where there is no such number.
+    pub fn end(&self) -> usize {
+        let end = self.pos.checked_add(self.width);
+        taken("end", end.ok_or(unfit(Why::BadArgument, 0)))
+    }
+
+    /// The field of an element that the core logged.
+    fn of(name: &'static str, element: Element) -> Field {
+        Field {
+            name,
+            role: element.role,
+            block: element.block,
+            index: element.index,
+            pos: element.pos as usize,
+            width: element.width as usize,
+            value: element.value,
+        }
+    }
+}
+
+/// The text of a name that the core itself logs.
+fn text(name: u32) -> &'static str {
+    match name {
+        names::ABSEXP => "exps[ch][0]",
+        names::EXPS => "exps[ch]",
+        names::CPLABSEXP => "cplabsexp",
+        names::CPLEXPS => "cplexps",
+        names::LFEABSEXP => "lfeexps[0]",
+        names::LFEEXPS => "lfeexps",
+        names::DELTNSEG => "deltnseg",
+        names::DELTOFFST => "deltoffst",
+        names::DELTLEN => "deltlen",
+        names::DELTBA => "deltba",
+        names::CPLDELTNSEG => "cpldeltnseg",
+        names::CPLDELTOFFST => "cpldeltoffst",
+        names::CPLDELTLEN => "cpldeltlen",
+        names::CPLDELTBA => "cpldeltba",
+        names::AUXBITS => "auxbits",
+        names::AUXDATAL => "auxdatal",
+        names::AUXDATAE => "auxdatae",
+        names::CRCRSV => "crcrsv",
+        names::ENCINFO => "encinfo",
+        names::CRC2 => "crc2",
+        _ => "unnamed",
+    }
+}
+
+/// A reader that keeps every element that it reads.
+///
+/// A limit past the data or past 32,768 bits is not sound to the core. It is then handed the part that
+/// is sound, and what it refuses with 1 is refused with 6.
+pub struct Cursor<'a> {
+    /// The frame.
+    pub data: &'a [u8],
+    /// The cursor's bit.
+    pub pos: usize,
+    /// The bit that nothing read may pass.
+    pub limit: usize,
+    /// The elements that were read.
+    pub fields: Vec<Field>,
+    /// The audio block, or -1 outside blocks.
+    pub block: i8,
+}
+
+impl<'a> Cursor<'a> {
+    /// A cursor at bit 0, outside blocks.
+    pub fn new(data: &'a [u8], limit_bits: usize) -> Self {
+        Cursor {
+            data,
+            pos: 0,
+            limit: limit_bits,
+            fields: Vec::with_capacity(1024),
+            block: -1,
+        }
+    }
+
+    /// The part of the limit that is sound.
+    fn sound(&self) -> usize {
+        self.limit.min(MOST).min(self.data.len().saturating_mul(8))
+    }
+
+    /// The cursor's numbers before a log of so many elements.
+    fn place(&self, count: usize) -> Place {
+        Place {
+            pos: self.pos,
+            limit: self.sound(),
+            block: self.block,
+            count,
+        }
+    }
+
+    /// A refusal as it is told of this cursor.
+    #[cold]
+    fn told(&self, refusal: Refusal) -> Refusal {
+        let why = match refusal.why {
+            Why::PastLimit if self.sound() < self.limit => Why::BadArgument,
+            why => why,
+        };
+        Refusal { why, ..refusal }
+    }
+
+    /// Keeps an element that the core logged.
+    fn keep(&mut self, name: &'static str, log: &[u32], count: usize, k: usize) {
+        let element = taken("element_at", core::element_at(log, count, k));
+        self.fields.push(Field::of(name, element));
+    }
+
+    /// Hands the cursor to a call of the core that logs elements of its own behind the first `count` of a
+    /// log, and keeps those.
+    pub(crate) fn logging<T>(
+        &mut self,
+        what: &str,
+        log: &mut [u32],
+        count: usize,
+        call: impl FnOnce(&[u8], &mut [u32], &mut Place) -> std::result::Result<T, Refusal>,
+    ) -> Result<T> {
+        let mut place = self.place(count);
+        let done = call(self.data, log, &mut place);
+        (self.pos, self.block) = (place.pos, place.block);
+        for k in count..place.count {
+            self.keep(text(log[WORDS * k]), log, place.count, k);
+        }
+        done.map_err(|refusal| refused(what, self.told(refusal)))
+    }
+
+    /// Hands the cursor to a call of the core that logs nothing.
+    pub(crate) fn moving<T>(
+        &mut self,
+        what: &str,
+        call: impl FnOnce(&[u8], &mut Place) -> std::result::Result<T, Refusal>,
+    ) -> Result<T> {
+        let mut place = self.place(0);
+        let done = call(self.data, &mut place);
+        self.pos = place.pos;
+        done.map_err(|refusal| refused(what, self.told(refusal)))
+    }
+
+    /// Reads an element.
+    ///
+    /// # Errors
+    /// With 6 where the width is above 32, then with 1 where the element would pass the limit.
+    pub fn get_role(
+        &mut self,
+        name: &'static str,
+        role: Role,
+        index: i16,
+        width: usize,
+    ) -> Result<u32> {
+        let (mut log, mut place) = ([0; WORDS], self.place(0));
+        let ask = Ask {
+            name: GIVEN,
+            role,
+            index,
+            width,
+        };
+        match core::read_element(self.data, &mut log, &mut place, &ask) {
+            Ok(value) => {
+                self.keep(name, &log, 1, 0);
+                self.pos = place.pos;
+                Ok(value)
+            }
+            Err(refusal) => Err(refused(name, self.told(refusal))),
+        }
+    }
+
+    /// Reads an element with no role and no index.
+    ///
+    /// # Errors
+    /// As [`Cursor::get_role`].
+    pub fn get(&mut self, name: &'static str, width: usize) -> Result<u32> {
+        self.get_role(name, Role::Plain, -1, width)
+    }
+
+    /// Reads an element with no role.
+    ///
+    /// # Errors
+    /// As [`Cursor::get_role`].
+    pub fn geti(&mut self, name: &'static str, index: usize, width: usize) -> Result<u32> {
+        self.get_role(name, Role::Plain, index as i16, width)
+    }
+
+    /// Reads an element of one bit.
+    ///
+    /// # Errors
+    /// As [`Cursor::get_role`].
+    pub fn flag(&mut self, name: &'static str) -> Result<bool> {
+        Ok(self.get(name, 1)? != 0)
+    }
+
+    /// Reads an element of one bit with an index.
+    ///
+    /// # Errors
+    /// As [`Cursor::get_role`].
+    pub fn flagi(&mut self, name: &'static str, index: usize) -> Result<bool> {
+        Ok(self.geti(name, index, 1)? != 0)
+    }
+
+    /// Keeps the next `width` bits as one element.
+    ///
+    /// # Errors
+    /// With 1 where they would pass the limit.
+    pub fn span(&mut self, name: &'static str, role: Role, width: usize) -> Result<()> {
+        let (mut log, mut place) = ([0; WORDS], self.place(0));
+        match core::span(self.data, &mut log, &mut place, GIVEN, role, width) {
+            Ok(()) => {
+                self.keep(name, &log, 1, 0);
+                self.pos = place.pos;
+                Ok(())
+            }
+            Err(refusal) => Err(refused(name, self.told(refusal))),
+        }
+    }
+
+    /// Keeps the bits from `start` to the cursor as one element.
+    ///
+    /// # Panics
+    /// With 6 where `start` is past the cursor, or the cursor past its limit.
+    #[track_caller]
+    pub fn close_span(&mut self, name: &'static str, role: Role, start: usize) {
+        let (mut log, mut place) = ([0; WORDS], self.place(0));
+        let done = core::close_span(self.data, &mut log, &mut place, GIVEN, role, start);
+        taken(name, done);
+        self.keep(name, &log, 1, 0);
+    }
+
+    /// Reads bits that are no element of their own.
+    ///
+    /// # Errors
+    /// As [`Cursor::get_role`].
+    pub fn raw(&mut self, width: usize, what: &str) -> Result<u32> {
+        self.moving(what, |frame, place| core::read_raw(frame, place, width))
+    }
+}
+
+/// The elements as the core's log, with room for `more`. Of each the position and the width are handed
+/// over, which are what tiling looks at.
+pub(crate) fn log_of(fields: &[Field], more: usize) -> std::result::Result<Vec<u32>, Refusal> {
+    let mut log = vec![0; WORDS * (fields.len() + more)];
+    for (words, field) in log.chunks_exact_mut(WORDS).zip(fields) {
+        let word = |number| u32::try_from(number).map_err(|_| unfit(Why::BadArgument, 0));
+        words[POS] = word(field.pos)?;
+        words[WIDTH] = word(field.width)?;
+    }
+    Ok(log)
+}
+
+/// Whether the elements tile the bits below `total`.
+///
+/// # Errors
+/// With 6 where there are more than 4,096 or one's position or width is past 32 bits, then with 18 where
+/// they don't.
+pub fn check_contiguous(fields: &[Field], total: usize) -> Result<()> {
+    let tiled = log_of(fields, 0).and_then(|log| core::check_tiling(&log, fields.len(), total));
+    tiled.map_err(|refusal| refused("check_contiguous", refusal))
+}
