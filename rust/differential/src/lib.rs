@@ -20,3 +20,4 @@ pub mod sides;
 pub mod slots;
 pub mod tally;
 pub mod vectors;
+pub mod whole;

@@ -2,7 +2,7 @@
 //! answers.
 #![forbid(unsafe_code)]
 
-use differential::{cases, record, rust, tally::Tally, vectors};
+use differential::{cases, record, rust, tally::Tally, vectors, whole};
 use std::process::ExitCode;
 
 const USAGE: &str = "\
@@ -49,6 +49,11 @@ fn run() -> Result<(), String> {
         "{} cases agree, {recorded} of them recorded answers",
         tally.total()
     );
+    if rust::PRESENT {
+        let frames = whole::all()?;
+        print!("{frames}");
+        println!("{} whole frames agree", frames.total());
+    }
     Ok(())
 }
 

@@ -59,13 +59,16 @@ mod cursor;
 mod frame;
 #[cfg(oracle)]
 mod reading;
+#[cfg(oracle)]
+mod whole;
 
 #[cfg(oracle)]
 mod there {
-    use super::{block, channel, cursor, frame, quiet, reading, Asked};
+    use super::{block, channel, cursor, frame, quiet, reading, whole, Asked};
     use crate::answers::Answer;
     use crate::call::Call;
     use crate::rule;
+    use crate::whole::Told;
     use oracle::{bits, crc};
 
     /// What the Rust does with a call, or none where it is not there.
@@ -93,6 +96,12 @@ mod there {
         })
     }
 
+    /// What the Rust's parser tells of a frame over its own modules and over the drop-in core, or none where it
+    /// is not there.
+    pub fn parsed(frame: &[u8]) -> Option<[Told; 2]> {
+        Some([whole::original(frame), whole::drop_in(frame)])
+    }
+
     /// The value of a function of bits or crc.
     fn value(call: &Call, after: &mut [u8]) -> u32 {
         match call {
@@ -118,18 +127,31 @@ pub use channel::{pointers_by, tables};
 #[cfg(oracle)]
 pub use cursor::{index, kinds, tiles};
 #[cfg(oracle)]
-pub use there::ask;
+pub use there::{ask, parsed};
+#[cfg(oracle)]
+pub use whole::lend;
 
 #[cfg(not(oracle))]
 mod absent {
     use super::Asked;
     use crate::call::{Allocation, Block, Call};
+    use crate::whole::Told;
     use zelamodurk::blocks::SLOTS;
     use zelamodurk::syntax::Role;
 
     /// What the Rust does with a call, or none where it is not there.
     pub fn ask(_: &Call) -> Option<Asked> {
         None
+    }
+
+    /// What the Rust's parser tells of a frame over both cores, or none where it is not there.
+    pub fn parsed(_: &[u8]) -> Option<[Told; 2]> {
+        None
+    }
+
+    /// Lends the Rust's tables to the drop-in core, where they are there.
+    pub fn lend() -> Result<(), String> {
+        Ok(())
     }
 
     /// What the Rust says of elements with these positions and widths, or none where it is not there.
@@ -164,7 +186,7 @@ mod absent {
 }
 
 #[cfg(not(oracle))]
-pub use absent::{ask, index, kinds, lengths, pointers_by, tables, tiles};
+pub use absent::{ask, index, kinds, lend, lengths, parsed, pointers_by, tables, tiles};
 
 /// Panics caught, and not printed: the Rust's are what is looked for.
 #[cfg(oracle)]

@@ -39,7 +39,7 @@ fn role(word: u32) -> Role {
     of((word / 32) as u8)
 }
 
-fn role_word(role: Role) -> u32 {
+pub fn role_word(role: Role) -> u32 {
     let programme = match role {
         Role::Dialnorm(p)
         | Role::ComprExists(p)
