@@ -5,6 +5,7 @@
 mod frames;
 mod rust;
 mod slots;
+mod whole;
 
 use std::hint::black_box;
 use std::time::Instant;
@@ -51,6 +52,7 @@ fn main() {
     allocate(&buffer);
     slots::all(&buffer);
     frames::all(&buffer);
+    whole::all();
     if zelamodurk::EMULATED {
         println!("the core ran under the kit's emulator here: these times say nothing");
     }

@@ -2,6 +2,7 @@
 //! is not there, functions that do nothing.
 
 pub mod frames;
+pub mod whole;
 
 /// Whether the Rust was there when this was built.
 pub const PRESENT: bool = cfg!(oracle);

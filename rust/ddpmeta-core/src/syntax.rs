@@ -1,7 +1,7 @@
 //! Syntax elements: a cursor that keeps every element that it reads, and the check that they tile a frame.
 
 use crate::error::{refused, taken, unfit, Result};
-use zelamodurk::syntax::{self as core, names, Ask, Element, Place};
+use zelamodurk::syntax::{self as core, names, Ask, Place};
 use zelamodurk::{Refusal, Why};
 
 pub use zelamodurk::syntax::Role;
@@ -45,16 +45,17 @@ impl Field {
         taken("end", end.ok_or(unfit(Why::BadArgument, 0)))
     }
 
-    /// The field of an element that the core logged.
-    fn of(name: &'static str, element: Element) -> Field {
+    /// The field of an element that the core logged; block and index are two's complements in 16 bits.
+    fn of(name: &'static str, words: &[u32; WORDS]) -> Field {
+        let [_, role, block, index, pos, width, value, _] = *words;
         Field {
             name,
-            role: element.role,
-            block: element.block,
-            index: element.index,
-            pos: element.pos as usize,
-            width: element.width as usize,
-            value: element.value,
+            role: Role::of_word(role),
+            block: block as i8,
+            index: index as i16,
+            pos: pos as usize,
+            width: width as usize,
+            value,
         }
     }
 }
@@ -140,12 +141,6 @@ impl<'a> Cursor<'a> {
         Refusal { why, ..refusal }
     }
 
-    /// Keeps an element that the core logged.
-    fn keep(&mut self, name: &'static str, log: &[u32], count: usize, k: usize) {
-        let element = taken("element_at", core::element_at(log, count, k));
-        self.fields.push(Field::of(name, element));
-    }
-
     /// Hands the cursor to a call of the core that logs elements of its own behind the first `count` of a
     /// log, and keeps those.
     pub(crate) fn logging<T>(
@@ -158,9 +153,9 @@ impl<'a> Cursor<'a> {
         let mut place = self.place(count);
         let done = call(self.data, log, &mut place);
         (self.pos, self.block) = (place.pos, place.block);
-        for k in count..place.count {
-            self.keep(text(log[WORDS * k]), log, place.count, k);
-        }
+        let logged = &log.as_chunks().0[count..place.count];
+        let fields = logged.iter().map(|words| Field::of(text(words[0]), words));
+        self.fields.extend(fields);
         done.map_err(|refusal| refused(what, self.told(refusal)))
     }
 
@@ -196,7 +191,7 @@ impl<'a> Cursor<'a> {
         };
         match core::read_element(self.data, &mut log, &mut place, &ask) {
             Ok(value) => {
-                self.keep(name, &log, 1, 0);
+                self.fields.push(Field::of(name, &log));
                 self.pos = place.pos;
                 Ok(value)
             }
@@ -244,7 +239,7 @@ impl<'a> Cursor<'a> {
         let (mut log, mut place) = ([0; WORDS], self.place(0));
         match core::span(self.data, &mut log, &mut place, GIVEN, role, width) {
             Ok(()) => {
-                self.keep(name, &log, 1, 0);
+                self.fields.push(Field::of(name, &log));
                 self.pos = place.pos;
                 Ok(())
             }
@@ -261,7 +256,7 @@ impl<'a> Cursor<'a> {
         let (mut log, mut place) = ([0; WORDS], self.place(0));
         let done = core::close_span(self.data, &mut log, &mut place, GIVEN, role, start);
         taken(name, done);
-        self.keep(name, &log, 1, 0);
+        self.fields.push(Field::of(name, &log));
     }
 
     /// Reads bits that are no element of their own.

@@ -144,8 +144,11 @@ pub fn frames() -> Result<Vec<Vec<u8>>, String> {
     Ok(frames)
 }
 
+/// A damaged copy of a frame; the others are there to take from.
+type Damage = fn(&mut Random, &[Vec<u8>], &[u8]) -> Vec<u8>;
+
 /// The kinds of damage.
-const DAMAGE: [(&str, fn(&mut Random, &[Vec<u8>], &[u8]) -> Vec<u8>); 6] = [
+const DAMAGE: [(&str, Damage); 6] = [
     ("flipped", flipped),
     ("flipped ahead", flipped_ahead),
     ("cut", cut),
