@@ -2,7 +2,7 @@
 //! `frame` with the names, types and signatures of the Rust that Zelamodurk was ported from. A parser that
 //! was written on those modules is compiled on these:
 //!
-//! ```ignore
+//! ```text
 //! pub use ddpmeta_core::{alloc, bits, blocks, crc, error, frame, syntax};
 //! pub mod bitalloc_tables;
 //! pub mod eac3;
@@ -30,7 +30,7 @@
 //! | `check_contiguous`, `read_tail` | 6: more than 4,096 elements, or one past 32 bits |
 //! | `read_tail` | 6: a total past the limit; 19: no room for the tail among 4,096 elements |
 //! | `read_exponents`, `read_delta`, `delta_code`, `allocate_block` | 6: a slot above 6 |
-//! | `AllocState::params`, `allocate_block` | 11: a code past its table |
+//! | `AllocState::params`, `allocate_block` | 11: a code past its table, or more than 8 segments |
 //! | `allocate_block` | 6: a slot asked for twice, a range past bin 253; 8: an exponent outside 0 to 24; 12: fewer exponents than the range has; 21: tables not lent, or unfit |
 //! | `conventional`, `aht` | 6: a range that ends before its start, or past the codes or bin 256 |
 //!
@@ -43,7 +43,7 @@
 //! | `crc::append_frame_crc` | 20: under 2 bytes |
 //! | `Field::end` | 6: past every number |
 //! | `Cursor::close_span` | 6: a start past the cursor, or a cursor past its limit |
-//! | `alloc::allocate` | 6: a table that is neither of TS's two, a range past bin 253; 8: an exponent outside 0 to 24, or not there; 11: a number that no code has; 21: tables not lent, or unfit |
+//! | `alloc::allocate` | 6: a table that is neither of TS's two, a range past bin 253; 8: an exponent outside 0 to 24, or not there; 11: a number that no code has, or more than 8 segments; 21: tables not lent, or unfit |
 //! | `frame::crc_status`, `fix_crcs` | 20: a length that is odd, above 4,096, or below 8 in AC-3 and 4 in E-AC-3 |
 //!
 //! # What is not from the proved functions

@@ -1,0 +1,248 @@
+//! What the drop-in refuses where the original panics, wraps, or answers what document 01 refuses: each entry
+//! of the lists in the crate's documentation.
+#![forbid(unsafe_code)]
+
+use ddpmeta_core::alloc::{allocate, Channel, DeltaSeg, Params};
+use ddpmeta_core::bits::{self, Writer};
+use ddpmeta_core::blocks::{
+    aht, allocate_block, conventional, read_exponents, AllocState, ExpSet, Groups, SlotAlloc,
+};
+use ddpmeta_core::error::{Error, Result};
+use ddpmeta_core::frame::{crc_status, fix_crcs, probe, read_tail, Codec};
+use ddpmeta_core::syntax::{check_contiguous, Cursor, Field, Role};
+use ddpmeta_core::{crc, lent};
+use std::panic::{catch_unwind, AssertUnwindSafe};
+
+/// The number in the message of a panic.
+#[track_caller]
+fn panics<T>(call: impl FnOnce() -> T) -> u8 {
+    let Err(why) = catch_unwind(AssertUnwindSafe(call)) else {
+        panic!("it answers");
+    };
+    number(why.downcast_ref::<String>().unwrap())
+}
+
+/// The number in the text of an error.
+#[track_caller]
+fn refuses<T>(done: Result<T>) -> u8 {
+    match done {
+        Ok(_) => panic!("it answers"),
+        Err(Error::Truncated(said) | Error::Unsupported(said) | Error::Invalid(said)) => {
+            number(&said)
+        }
+        Err(error) => panic!("{error}"),
+    }
+}
+
+#[track_caller]
+fn number(said: &str) -> u8 {
+    let (_, rest) = said.split_once(": refused with ").unwrap();
+    let (number, rest) = rest.split_once(" at bit ").unwrap();
+    assert!(rest.contains(": "), "{said}");
+    number.parse().unwrap()
+}
+
+fn field(pos: usize, width: usize) -> Field {
+    Field {
+        name: "a",
+        role: Role::Plain,
+        block: -1,
+        index: -1,
+        pos,
+        width,
+        value: 0,
+    }
+}
+
+#[test]
+fn bits_panic() {
+    let (x, mut y) = ([0; 4], [0; 4]);
+    assert_eq!(panics(|| bits::get(&x, 0, 33)), 6);
+    assert_eq!(panics(|| bits::get(&x, 1, 32)), 1);
+    assert_eq!(panics(|| bits::get(&x, 33, 0)), 1);
+    assert_eq!(panics(|| bits::set(&mut y, 0, 33, 0)), 6);
+    assert_eq!(panics(|| bits::set(&mut y, 1, 32, 0)), 1);
+    assert_eq!(panics(|| bits::range_eq(&x, 1, &y, 0, 32)), 1);
+    assert_eq!(panics(|| bits::range_zero(&x, 1, 32)), 1);
+    assert_eq!(panics(|| Writer::new().put(33, 0)), 6);
+    assert_eq!(panics(|| Writer::new().copy(&x, 1, 32)), 1);
+    assert_eq!(panics(|| crc::append_frame_crc(&mut vec![0])), 20);
+}
+
+#[test]
+fn checksums_panic() {
+    for (codec, len) in [
+        (Codec::Ac3, 6),
+        (Codec::Eac3, 2),
+        (Codec::Eac3, 9),
+        (Codec::Ac3, 4098),
+    ] {
+        let mut frame = vec![0; len];
+        assert_eq!(panics(|| crc_status(codec, &frame)), 20);
+        assert_eq!(panics(|| fix_crcs(codec, &mut frame)), 20);
+    }
+}
+
+#[test]
+fn a_span_that_cannot_be_closed_panics() {
+    let frame = [0; 4];
+    let mut cursor = Cursor::new(&frame, 32);
+    assert_eq!(panics(|| cursor.close_span("a", Role::Plain, 1)), 6);
+    cursor.pos = 33;
+    assert_eq!(panics(|| cursor.close_span("a", Role::Plain, 0)), 6);
+    assert!(cursor.fields.is_empty());
+    assert_eq!(panics(|| field(usize::MAX, 1).end()), 6);
+}
+
+#[test]
+fn readers_refuse() {
+    let frame = [0; 8];
+    let mut cursor = Cursor::new(&frame, 64);
+    assert_eq!(refuses(cursor.get("a", 33)), 6);
+    assert_eq!(refuses(cursor.raw(33, "a")), 6);
+    assert_eq!(refuses(cursor.span("a", Role::Plain, 65)), 1);
+    assert_eq!(refuses(read_exponents(&mut cursor, 7, 1, 0, 4)), 6);
+    assert_eq!(refuses(AllocState::default().read_delta(&mut cursor, 7)), 6);
+    assert_eq!(refuses(AllocState::default().delta_code(7, 2, false)), 6);
+    assert_eq!(refuses(read_tail(&mut cursor, 65, Codec::Ac3)), 6);
+    let groups = &mut Groups::default();
+    for (start, end, len) in [(0, 5, 4), (2, 1, 4), (0, 257, 300)] {
+        let codes = vec![0; len];
+        assert_eq!(
+            refuses(conventional(&mut cursor, &codes, start, end, groups)),
+            6
+        );
+        assert_eq!(refuses(aht(&mut cursor, &codes, start, end)), 6);
+    }
+    assert_eq!((cursor.pos, cursor.fields.len()), (0, 0));
+    assert_eq!(refuses(probe(&[0x0B, 0x77, 0, 0, 0, 0x48])), 5);
+}
+
+/// Where a limit is not sound, what is sound of it is read.
+#[test]
+fn a_limit_that_is_not_sound_refuses_what_passes_the_sound_part() {
+    let frame = vec![0; 5000];
+    for (bytes, limit, sound) in [(8, 65, 64), (5000, 40_000, 32_768)] {
+        let mut cursor = Cursor::new(&frame[..bytes], limit);
+        cursor.pos = sound - 1;
+        assert_eq!(cursor.get("a", 1), Ok(0));
+        assert_eq!(refuses(cursor.get("a", 1)), 6);
+        assert_eq!((cursor.pos, cursor.fields.len()), (sound, 1));
+    }
+}
+
+#[test]
+fn too_many_elements_are_refused() {
+    let mut fields: Vec<Field> = (0..4097).map(|at| field(at, 1)).collect();
+    assert_eq!(refuses(check_contiguous(&fields, 4097)), 6);
+    assert_eq!(check_contiguous(&fields[..4096], 4096), Ok(()));
+    assert_eq!(refuses(check_contiguous(&[field(0, 1 << 32)], 1 << 32)), 6);
+    let frame = [0; 1024];
+    for (count, number) in [(4097, 6), (4096, 19), (4093, 19)] {
+        let mut cursor = Cursor::new(&frame, 8192);
+        fields.truncate(count);
+        cursor.fields.clone_from(&fields);
+        cursor.pos = count;
+        assert_eq!(refuses(read_tail(&mut cursor, 8192, Codec::Ac3)), number);
+    }
+}
+
+#[test]
+fn codes_past_their_tables_are_refused() {
+    let state = |bai| AllocState {
+        bai,
+        ..AllocState::default()
+    };
+    assert_eq!(refuses(state(None).params(0)), 10);
+    assert_eq!(refuses(state(Some([4, 0, 0, 0, 0])).params(0)), 11);
+    assert_eq!(refuses(state(Some([0, 0, 0, 0, 8])).params(0)), 11);
+    assert_eq!(state(Some([3, 3, 3, 3, 7])).params(9).unwrap().floor, -2048);
+}
+
+/// Document 01's bap by address.
+fn bap() -> [u8; 64] {
+    let runs = [1, 5, 2, 3, 2, 2, 4, 4, 4, 4, 4, 4, 4, 4, 8, 9];
+    let all: Vec<u8> = (0..)
+        .zip(runs)
+        .flat_map(|(bap, run)| [bap].repeat(run))
+        .collect();
+    all.try_into().unwrap()
+}
+
+/// One test, since tables are lent once in a program.
+#[test]
+fn allocation_refuses() {
+    let exp = [25; 256];
+    let channel = |end, fgain| Channel {
+        exp: &exp,
+        start: 0,
+        end,
+        fgain,
+        snroffset: 0,
+        leak: None,
+        delta: &[],
+    };
+    let bai = Some([0; 5]);
+    let mut state = AllocState {
+        bai,
+        csnroffst: Some(15),
+        ..AllocState::default()
+    };
+    let params = state.params(0).unwrap();
+    let set = ExpSet {
+        exp: exp.to_vec(),
+        start: 0,
+        end: 256,
+    };
+    let short = ExpSet {
+        exp: vec![0; 4],
+        ..set.clone()
+    };
+    let ask = |slot, end| SlotAlloc {
+        slot,
+        exps: if end == 5 { &short } else { &set },
+        start: 0,
+        end,
+        high_efficiency: false,
+    };
+    state.csnroffst = Some(20);
+    assert_eq!(refuses(allocate_block(&state, 0, &[ask(0, 9)])), 21);
+    assert_eq!(panics(|| allocate(&channel(9, 128), &params, &bap())), 21);
+    assert_eq!(refuses(lent::lend(&[-1; 150], &[0; 256])), 21);
+    assert_eq!(lent::lend(&[0; 150], &[0; 256]), Ok(()));
+    assert_eq!(refuses(lent::lend(&[1; 150], &[0; 256])), 21);
+
+    assert_eq!(refuses(allocate_block(&state, 0, &[ask(7, 9)])), 6);
+    let twice = [ask(0, 9), ask(0, 9)];
+    assert_eq!(refuses(allocate_block(&state, 0, &twice)), 6);
+    assert_eq!(refuses(allocate_block(&state, 3, &[])), 11);
+    assert_eq!(refuses(allocate_block(&state, 0, &[ask(0, 254)])), 6);
+    assert_eq!(refuses(allocate_block(&state, 0, &[ask(0, 9)])), 8);
+    assert_eq!(refuses(allocate_block(&state, 0, &[ask(0, 5)])), 12);
+
+    assert_eq!(panics(|| allocate(&channel(9, 128), &params, &[0; 64])), 6);
+    assert_eq!(panics(|| allocate(&channel(254, 128), &params, &bap())), 6);
+    assert_eq!(panics(|| allocate(&channel(9, 128), &params, &bap())), 8);
+    let few = Channel {
+        exp: &[0; 4],
+        ..channel(5, 128)
+    };
+    assert_eq!(panics(|| allocate(&few, &params, &bap())), 8);
+    assert_eq!(panics(|| allocate(&channel(9, 129), &params, &bap())), 11);
+    let other = Params {
+        sdecay: 16,
+        ..params
+    };
+    assert_eq!(panics(|| allocate(&channel(9, 128), &other, &bap())), 11);
+    let segment = DeltaSeg {
+        offset: 0,
+        len: 0,
+        ba: 0,
+    };
+    let many = Channel {
+        delta: &[segment; 9],
+        ..channel(9, 128)
+    };
+    assert_eq!(panics(|| allocate(&many, &params, &bap())), 11);
+    assert_eq!(allocate(&channel(0, 128), &params, &bap()), []);
+}
