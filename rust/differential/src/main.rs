@@ -52,7 +52,11 @@ fn run() -> Result<(), String> {
     if rust::PRESENT {
         let frames = whole::all()?;
         print!("{frames}");
-        println!("{} whole frames agree", frames.total());
+        println!(
+            "{} whole frames agree; those taken have elements of {} names",
+            frames.total(),
+            frames.names.len()
+        );
     }
     Ok(())
 }

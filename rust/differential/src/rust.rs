@@ -102,6 +102,11 @@ mod there {
         Some([whole::original(frame), whole::drop_in(frame)])
     }
 
+    /// What it tells over the drop-in core alone.
+    pub fn over_drop_in(frame: &[u8]) -> Option<Told> {
+        Some(whole::drop_in(frame))
+    }
+
     /// The value of a function of bits or crc.
     fn value(call: &Call, after: &mut [u8]) -> u32 {
         match call {
@@ -127,7 +132,7 @@ pub use channel::{pointers_by, tables};
 #[cfg(oracle)]
 pub use cursor::{index, kinds, tiles};
 #[cfg(oracle)]
-pub use there::{ask, parsed};
+pub use there::{ask, over_drop_in, parsed};
 #[cfg(oracle)]
 pub use whole::lend;
 
@@ -146,6 +151,11 @@ mod absent {
 
     /// What the Rust's parser tells of a frame over both cores, or none where it is not there.
     pub fn parsed(_: &[u8]) -> Option<[Told; 2]> {
+        None
+    }
+
+    /// What it tells over the drop-in core alone.
+    pub fn over_drop_in(_: &[u8]) -> Option<Told> {
         None
     }
 
@@ -186,7 +196,9 @@ mod absent {
 }
 
 #[cfg(not(oracle))]
-pub use absent::{ask, index, kinds, lend, lengths, parsed, pointers_by, tables, tiles};
+pub use absent::{
+    ask, index, kinds, lend, lengths, over_drop_in, parsed, pointers_by, tables, tiles,
+};
 
 /// Panics caught, and not printed: the Rust's are what is looked for.
 #[cfg(oracle)]

@@ -1,9 +1,11 @@
 //! Whole E-AC-3 frames: the Rust's own parser over the Rust's modules and over the drop-in core
 //! (`ddpmeta-core`) must tell the same of each frame of the streams and of damaged copies.
 
+mod made;
+
 use crate::random::Random;
 use crate::rust;
-use std::collections::BTreeMap;
+use std::collections::{BTreeMap, BTreeSet};
 use std::fmt;
 use std::fs;
 use std::path::{Path, PathBuf};
@@ -14,6 +16,8 @@ const STREAMS: &str = concat!(env!("CARGO_MANIFEST_DIR"), "/../../../shared/stre
 const SAMPLES: &str = concat!(env!("CARGO_MANIFEST_DIR"), "/../../samples");
 /// How many damaged copies there are of each frame.
 const COPIES: usize = 200;
+/// How many frames of random bits are made for each copy of a frame.
+const MADE: usize = 300;
 
 /// An element that a parser answers, with its role's word.
 #[derive(Clone, Debug, PartialEq, Eq)]
@@ -78,6 +82,12 @@ pub enum Told {
 }
 
 impl Refusal {
+    /// The bit that the drop-in's text carries; none where the parser itself refuses.
+    fn bit(&self) -> Option<usize> {
+        let (_, rest) = self.said.split_once(" at bit ")?;
+        rest.split(':').next()?.parse().ok()
+    }
+
     /// Whether the drop-in's error is the same. What the parser itself refuses has the same text. What the core
     /// refuses has the same kind and the number of the Rust's text, which has the bit for refusal 1 alone, and
     /// the element's name where a single element was asked for.
@@ -85,11 +95,10 @@ impl Refusal {
         if self.kind != ours.kind {
             return false;
         }
-        let Some((name, refusal)) = ours.said.split_once(": refused with ") else {
+        let (Some((name, _)), Some(bit)) = (ours.said.split_once(": refused with "), ours.bit())
+        else {
             return self.said == ours.said;
         };
-        let mut words = refusal.split([' ', ':']);
-        let bit = words.nth(3).unwrap_or_default();
         let many = ["exponents", "delta", "mantissa", "aht", "tail"].contains(&name);
         self.number == ours.number
             && (self.number != 1 || self.said.contains(&format!(" at bit {bit} beyond ")))
@@ -220,6 +229,8 @@ fn random_behind(random: &mut Random, _: &[Vec<u8>], frame: &[u8]) -> Vec<u8> {
 #[derive(Default)]
 pub struct Tally {
     counts: BTreeMap<(&'static str, String), u64>,
+    /// The names of the elements in frames that both sides took.
+    pub names: BTreeSet<&'static str>,
 }
 
 impl Tally {
@@ -245,6 +256,10 @@ impl Tally {
             ));
         };
         *self.counts.entry((kind, told)).or_default() += 1;
+        if let Told::Frame(frame) = ours {
+            self.names
+                .extend(frame.elements.iter().map(|element| element.name));
+        }
         Ok(())
     }
 }
@@ -282,7 +297,8 @@ impl fmt::Display for Tally {
     }
 }
 
-/// Compares every frame, each also behind and before other bytes, and `copies` damaged copies of each.
+/// Compares every frame, each also before other bytes, `copies` damaged copies of each, and [`MADE`] times as
+/// many frames of random bits as copies.
 ///
 /// # Errors
 /// The first frame that differs, in words.
@@ -299,6 +315,9 @@ pub fn run(copies: usize) -> Result<Tally, String> {
             let damaged = damage(&mut random, &frames, frame);
             tally.compare(kind, &damaged)?;
         }
+    }
+    for _ in 0..MADE * copies {
+        tally.compare("made of random bits", &made::frame(&mut random))?;
     }
     Ok(tally)
 }

@@ -9,7 +9,8 @@ use differential::whole;
 fn the_parser_tells_the_same_over_both_cores() {
     let frames = whole::frames().unwrap().len() as u64;
     let tally = whole::run(12).unwrap();
-    assert_eq!(tally.total(), frames * 14);
     assert_eq!(tally.taken("as it is"), frames);
     assert_eq!(tally.taken("with more behind it"), frames);
+    assert!(tally.taken("made of random bits") > 100);
+    assert!(tally.total() > 14 * frames);
 }

@@ -25,9 +25,13 @@ mod called {
         false
     }
 
-    pub fn drop_in(_: &[u8]) {}
+    pub fn drop_in(_: &[u8]) -> bool {
+        false
+    }
 
-    pub fn original(_: &[u8]) {}
+    pub fn original(_: &[u8]) -> bool {
+        false
+    }
 }
 
 pub use called::{drop_in, lend, original};
