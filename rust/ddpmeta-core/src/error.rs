@@ -74,11 +74,11 @@ pub(crate) fn unfit(why: Why, bit: usize) -> Refusal {
 /// The value where the signature has no error.
 ///
 /// # Panics
-/// Where it is refused: the message has the refusal's number, bit and words.
+/// Where it is refused: the message has the refusal's number, bit, words and name.
 #[track_caller]
 pub(crate) fn taken<T>(what: &str, done: std::result::Result<T, Refusal>) -> T {
     match done {
         Ok(value) => value,
-        Err(refusal) => panic!("{what}: {refusal}"),
+        Err(refusal) => panic!("{what}: {refusal} ({:?})", refusal.why),
     }
 }

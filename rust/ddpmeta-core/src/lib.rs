@@ -18,7 +18,8 @@
 //!
 //! An error is [`Truncated`](error::Error::Truncated) for refusal 1, [`Unsupported`](error::Error::Unsupported)
 //! for 5, and [`Invalid`](error::Error::Invalid) for every other, as in the original. Its text has what was
-//! asked for and the refusal: `dialnorm: refused with 1 at bit 45: ..`. The texts are not the original's.
+//! asked for and the refusal: `dialnorm: refused with 1 at bit 45: ..`. The texts are not the original's, nor is
+//! what `Display` writes before them.
 //!
 //! Where the original would panic or wrap, or document 01 refuses what it answers, a function that has a
 //! `Result` refuses by it:
@@ -34,7 +35,7 @@
 //! | `allocate_block` | 6: a slot asked for twice, a range past bin 253; 8: an exponent outside 0 to 24; 12: fewer exponents than the range has; 21: tables not lent, or unfit |
 //! | `conventional`, `aht` | 6: a range that ends before its start, or past the codes or bin 256 |
 //!
-//! Where the signature has no `Result`, it panics, with the refusal's number, bit and words in the message:
+//! Where the signature has no `Result`, it panics, with the refusal's number, bit, words and name in the message:
 //!
 //! | Function | Panics |
 //! |---|---|

@@ -12,14 +12,19 @@ use ddpmeta_core::frame::{crc_status, fix_crcs, probe, read_tail, Codec};
 use ddpmeta_core::syntax::{check_contiguous, Cursor, Field, Role};
 use ddpmeta_core::{crc, lent};
 use std::panic::{catch_unwind, AssertUnwindSafe};
+use zelamodurk::Why;
 
-/// The number in the message of a panic.
+/// The number in the message of a panic, which has the refusal's name too.
 #[track_caller]
 fn panics<T>(call: impl FnOnce() -> T) -> u8 {
     let Err(why) = catch_unwind(AssertUnwindSafe(call)) else {
         panic!("it answers");
     };
-    number(why.downcast_ref::<String>().unwrap())
+    let said = why.downcast_ref::<String>().unwrap();
+    let number = number(said);
+    let name = format!(" ({:?})", Why::of_number(number));
+    assert!(said.ends_with(&name), "{said}");
+    number
 }
 
 /// The number in the text of an error.
