@@ -54,7 +54,7 @@ fn header(random: &mut Random, frame: &mut [u8]) {
         (3, random.to(7)),
         (11, words - 1),
         (2, random.to(2)),
-        (2, random.one(&[0, 0, 0, 1, 2, 3])),
+        (2, random.one(&[0, 1, 1, 2, 2, 3])),
         (3, random.to(7)),
         (1, random.to(1)),
         (5, 11 + random.to(5)),
