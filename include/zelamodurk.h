@@ -366,6 +366,7 @@ uint8_t zela_allocate_block(const struct zela_state *state, uint8_t fscod, const
                             const uint8_t exponents[1792], const size_t ranges[28], const uint16_t *hearing,
                             size_t hearing_len, const uint8_t *log_add, size_t log_add_len, uint8_t bap[1792],
                             size_t *bit);
+
 /* ---- probe: which syntax a frame has, and how long it is ---- */
 
 /*
