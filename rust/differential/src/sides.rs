@@ -278,6 +278,11 @@ impl Numbers {
 }
 
 impl Side {
+    /// How many digits its bytes and words have.
+    pub fn digits(&self) -> usize {
+        2 * (self.first.len() + self.second.len()) + 8 * self.words.len()
+    }
+
     /// Whether a side is not too long for a line.
     pub fn fits(&self) -> bool {
         let bytes = self.first.len().max(self.second.len());
