@@ -9,12 +9,14 @@ use differential::scripts::spans;
 use differential::tally::Tally;
 use std::fs;
 use std::path::Path;
+use std::thread;
 use zelamodurk::frame::{self, Codec, Status};
 use zelamodurk::syntax::Place;
+use zelamodurk::EMULATED;
 
 const STREAMS: &str = concat!(env!("CARGO_MANIFEST_DIR"), "/../../../shared/streams");
 const SAMPLES: &str = concat!(env!("CARGO_MANIFEST_DIR"), "/../../samples");
-/// How many bits of each frame are broken, one at a time, where not all are.
+/// How many bits of each frame are broken under an emulator.
 const BROKEN: usize = 24;
 
 /// The codec of a file that is a stream, by its name.
@@ -108,21 +110,31 @@ fn broken_bit_is_repaired(codec: Codec, good_frame: &[u8], bit: usize) {
     }
 }
 
-/// The checksums begin behind the sync word, which is 16 bits.
+/// Breaks one bit after the other behind the sync word, which is 16 bits: all, and under an emulator some.
+fn broken_bits_are_repaired(codec: Codec, frame: &[u8]) {
+    let bits = 16..8 * frame.len();
+    if EMULATED {
+        let mut random = Random::new(60);
+        let some = (0..BROKEN).map(|_| bits.start + random.to(bits.len() - 1));
+        some.for_each(|bit| broken_bit_is_repaired(codec, frame, bit));
+    } else {
+        bits.for_each(|bit| broken_bit_is_repaired(codec, frame, bit));
+    }
+}
+
 #[test]
 fn any_broken_bit_shows_and_is_repaired() {
     let frames = frames();
-    for codec in CODECS {
-        let (_, one) = frames.iter().find(|(of, _)| *of == codec).unwrap();
-        (16..8 * one.len()).for_each(|bit| broken_bit_is_repaired(codec, one, bit));
-    }
-    let mut random = Random::new(60);
-    for (codec, frame) in &frames {
-        for _ in 0..BROKEN {
-            let bit = 16 + random.to(8 * frame.len() - 17);
-            broken_bit_is_repaired(*codec, frame, bit);
+    let share = frames.len() / thread::available_parallelism().map_or(1, usize::from) + 1;
+    thread::scope(|scope| {
+        for part in frames.chunks(share) {
+            scope.spawn(move || {
+                for (codec, frame) in part {
+                    broken_bits_are_repaired(*codec, frame);
+                }
+            });
         }
-    }
+    });
 }
 
 /// A cursor behind one element, from the frame's start to the position.
