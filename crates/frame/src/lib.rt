@@ -15,6 +15,7 @@ use syntax::cursor::Cursor;
 use syntax::is_unsound;
 use syntax::names;
 use syntax::next;
+use syntax::room_of;
 use syntax::span;
 ghost use mathlib.Core.Path.{_≡_};
 ghost use mathlib.Core.Bool.{true};
@@ -57,10 +58,7 @@ pub struct Tailed {
 fn is_past_room(words: usize, count: usize) -> bool
     ensures { λ r. ⌜ r ≡ ltb (room words) count ⌝ }
 {
-    if 4096 < count {
-        return true;
-    }
-    words / 8 < count
+    room_of(words) < count
 }
 
 // Whether a tail can't be asked for so: its total, its place or the count of its log.

@@ -43,6 +43,8 @@ use Rattle.syntax.proofs.is_span.Kinds as is-span-kinds
 use Rattle.syntax.proofs.is_span.Reads as is-span-reads
 use Rattle.syntax.proofs.end.Kinds as end-kinds
 use Rattle.syntax.proofs.end.Reads as end-reads
+use Rattle.syntax.proofs.room_of.Kinds as room-of-kinds
+use Rattle.syntax.proofs.room_of.Reads as room-of-reads
 use Rattle.syntax.proofs.is_unsound.Kinds as is-unsound-kinds
 use Rattle.syntax.proofs.is_unsound.Reads as is-unsound-reads
 use Rattle.syntax.proofs.passes.Kinds as passes-kinds
@@ -127,6 +129,9 @@ is-span-one κs a x y s t p q = p ∙ sym q
 
 pub end-one : Decides 0 end-kinds.ps end-kinds.r end-reads.Post
 end-one κs a x y s t p q = p ∙ sym q
+
+pub room-of-one : Decides 0 room-of-kinds.ps room-of-kinds.r room-of-reads.Post
+room-of-one κs a x y s t p q = p ∙ sym q
 
 pub is-unsound-one : Decides 0 is-unsound-kinds.ps is-unsound-kinds.r is-unsound-reads.Post
 is-unsound-one κs a x y s t p q = p ∙ sym q

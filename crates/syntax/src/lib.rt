@@ -355,7 +355,7 @@ fn full(bit: usize) -> Refusal
 }
 
 // How many elements a log of so many words takes.
-fn room_of(words: usize) -> usize
+pub fn room_of(words: usize) -> usize
     ensures { λ r. ⌜ r ≡ room words ⌝ }
 {
     let n = words / 8;
