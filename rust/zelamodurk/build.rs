@@ -1,5 +1,5 @@
-//! Builds the archive of the proved core with `rt staticlib capi`, and links it. On a machine that
-//! is not x86-64 it makes a program of the archive for the kit's emulator instead (src/relay.rs).
+//! Builds the archives of the proved core with `rt staticlib`, and links them. On a machine that is not
+//! x86-64 it makes a program of them for the kit's emulator instead (src/relay.rs).
 #![forbid(unsafe_code)]
 
 use std::env;
@@ -7,9 +7,12 @@ use std::fs::{self, File};
 use std::path::{Path, PathBuf};
 use std::process::Command;
 
-/// The exporting crate of the core; `rt staticlib` writes `lib` and this name and `.a`.
-const CRATE: &str = "capi";
-/// The one target that the archive has code for.
+/// The exporting crate whose functions are over bytes alone; `rt staticlib` writes `lib` and this name
+/// and `.a`.
+const BYTES: &str = "capi_bytes";
+/// The exporting crate of all other functions.
+const CURSOR: &str = "capi";
+/// The one target that the archives have code for.
 const TARGET: &str = "x86_64-unknown-linux-gnu";
 
 fn main() {
@@ -32,12 +35,27 @@ fn build() -> Result<(), String> {
         Some(Kit::for_machine(&arch, &os)?)
     };
     let out = PathBuf::from(set("OUT_DIR")?);
-    let archive = archive(&root, &out)?;
+    let crates = crates();
+    let archives = archives(&root, &out, crates)?;
     match kit {
-        None => link(&out),
-        Some(kit) => kit.relay(&root, &out, &archive)?,
+        None => link(&out, crates),
+        Some(kit) => kit.relay(&root, &out, &archives)?,
     }
     Ok(())
+}
+
+/// Whether the crate is built with all that reads by a cursor or allocates.
+fn has_cursor() -> bool {
+    env::var_os("CARGO_FEATURE_CURSOR").is_some()
+}
+
+/// The exporting crates that this build needs. `rt` proves all that they stand on, so no other is built.
+fn crates() -> &'static [&'static str] {
+    if has_cursor() {
+        &[BYTES, CURSOR]
+    } else {
+        &[BYTES]
+    }
 }
 
 /// A variable that cargo sets.
@@ -53,11 +71,11 @@ fn project_root() -> Result<PathBuf, String> {
     }
     let at = root.display();
     Err(format!(
-        "no crates.txt in {at}: the archive is built from the project around this crate"
+        "no crates.txt in {at}: the archives are built from the project around this crate"
     ))
 }
 
-/// Names everything that the archive is made from, so that it is made anew where that changes.
+/// Names everything that the archives are made from, so that they are made anew where that changes.
 fn watch(root: &Path) -> Result<(), String> {
     for file in ["build.rs", "relay"] {
         println!("cargo::rerun-if-changed={file}");
@@ -78,27 +96,34 @@ fn watch(root: &Path) -> Result<(), String> {
     Ok(())
 }
 
-/// Has `rt` write the archive below the project's target/, and copies it to `out`: a later `rt ci`
-/// removes target/, and this build's output must still link then.
-fn archive(root: &Path, out: &Path) -> Result<PathBuf, String> {
-    let name = format!("lib{CRATE}.a");
+/// Has `rt` write the archives below the project's target/, and copies them to `out`.
+fn archives(root: &Path, out: &Path, crates: &[&str]) -> Result<Vec<PathBuf>, String> {
     // Builds into several target folders share the project's target/: one at a time. A file system
     // that locks nothing is no reason to fail.
     let turn = File::open(root.join("crates.txt")).map_err(|e| format!("crates.txt: {e}"))?;
     let _ = turn.lock();
+    let made = crates.iter().map(|name| archive(root, out, name));
+    made.collect()
+}
+
+/// One archive, and its copy: a later `rt ci` removes target/, and this build's output must still link
+/// then.
+fn archive(root: &Path, out: &Path, name: &str) -> Result<PathBuf, String> {
     run(Command::new("rt")
-        .args(["staticlib", CRATE])
+        .args(["staticlib", name])
         .current_dir(root))?;
-    let made = root.join("target/staticlib").join(&name);
-    let kept = out.join(&name);
-    fs::copy(&made, &kept)
-        .map_err(|e| format!("rt left no archive at target/staticlib/{name}: {e}"))?;
+    let file = format!("lib{name}.a");
+    let kept = out.join(&file);
+    fs::copy(root.join("target/staticlib").join(&file), &kept)
+        .map_err(|e| format!("rt left no archive at target/staticlib/{file}: {e}"))?;
     Ok(kept)
 }
 
-fn link(out: &Path) {
+fn link(out: &Path, crates: &[&str]) {
     println!("cargo::rustc-link-search=native={}", out.display());
-    println!("cargo::rustc-link-lib=static={CRATE}");
+    for name in crates {
+        println!("cargo::rustc-link-lib=static={name}");
+    }
 }
 
 /// The parts of the kit that make and run x86-64 programs on this machine.
@@ -121,17 +146,18 @@ impl Kit {
             return Ok(kit);
         }
         Err(format!(
-            "the archive of the proved core is for x86_64 Linux alone; this build is for {arch} {os}, and the kit has no emulator for it"
+            "the archives of the proved core are for x86_64 Linux alone; this build is for {arch} {os}, and the kit has no emulator for it"
         ))
     }
 
     /// Makes the program that src/relay.rs runs.
-    fn relay(&self, root: &Path, out: &Path, archive: &Path) -> Result<(), String> {
+    fn relay(&self, root: &Path, out: &Path, archives: &[PathBuf]) -> Result<(), String> {
         let object = out.join("relay.o");
         run(Command::new(self.toolchain.join("bin/clang"))
             .args([
                 "-target", TARGET, "-std=c99", "-O2", "-fPIE", "-Wall", "-Wextra", "-Werror",
             ])
+            .args(has_cursor().then_some("-DZELA_CURSOR"))
             .args(["-nostdinc", "-I", "relay/include", "-I"])
             .arg(root.join("include"))
             .args(["-c", "relay/relay.c", "-o"])
@@ -141,7 +167,8 @@ impl Kit {
             .arg(&self.toolchain)
             .arg("-o")
             .arg(out.join("relay"))
-            .args([&object, archive]))?;
+            .arg(&object)
+            .args(archives))?;
         let toolchain = self.toolchain.display();
         println!("cargo::rustc-env=ZELAMODURK_TOOLCHAIN={toolchain}");
         Ok(())
@@ -153,7 +180,7 @@ fn run(command: &mut Command) -> Result<String, String> {
     let name = command.get_program().to_string_lossy().into_owned();
     let ran = command.output().map_err(|e| match name.as_str() {
         "rt" => format!(
-            "cannot run `rt` ({e}): the Rattle kit's `rt` must be on PATH to build the archive"
+            "cannot run `rt` ({e}): the Rattle kit's `rt` must be on PATH to build the archives"
         ),
         _ => format!("cannot run the kit's {name}: {e}"),
     })?;

@@ -1,10 +1,10 @@
--- A thin function's answer, from what the call below answers.
+-- What a caller is left with after a call over a cursor, from what the call below answers.
 -- Assumes nothing.
-use mathlib.Core.Path.{_≡_, refl, sym, ap, ap₂, _∙_}
+use mathlib.Core.Path.{_≡_, refl, ap, ap₂, _∙_}
 use mathlib.Core.List.{List}
 use lib.ListN.{length}
 use Prim.Native.Nat.{ℕ}
-use Rattle.refusal.specs.Refusals.{Grounds, grounds, Outcome, taken, refused, Ran, settle}
+use Rattle.refusal.specs.Refusals.{Outcome, taken, refused, Ran, settle}
 use Rattle.syntax.specs.declared.Place.{Place}
 use Rattle.syntax.specs.declared.Role.{Role}
 use Rattle.syntax.specs.Reads.{Standing, standing, closeOf, closes}
@@ -20,32 +20,14 @@ use Rattle.exponents.specs.Reads.{Left, left}
 use Rattle.blocks.specs.declared.AllocState.{AllocState}
 use Rattle.blocks.specs.declared.Channel.{Channel}
 use Rattle.blocks.specs.Side.{Stood}
-use Rattle.capi.specs.Replies.{Told, told, toldOf, Reply, reply, replyOf, running, runningOf}
+use Rattle.convention.specs.Replies.{Told, told, toldOf, Reply, reply, replyOf}
 use Rattle.capi.specs.Standings.{stood, stoodOf, moved, movedOf, advanced, advancedOf}
 use Rattle.capi.specs.Walks.{carried, carriedOf}
 use Rattle.capi.specs.Sets.{unpacked, unpackedOf}
 use Rattle.capi.specs.States.{rowsAfter, kept, keptOf, gathered, gatheredOf}
 use Rattle.capi.specs.Blocks.{pointersOf, pointed, pointedOf}
 
--- the two arms of an answer that means o
-module _ {A : Type 0} {o : Outcome A} where
-  pub told-taken : {a : A} → o ≡ taken a → told 0 0 ≡ toldOf o
-  told-taken h = ap toldOf (sym h)
-
-  pub told-refused : {g : Grounds} {k b : ℕ} → o ≡ refused g → grounds k b ≡ g → told k b ≡ toldOf o
-  told-refused h t = ap (λ (w : Grounds). toldOf {A = A} (refused w)) t ∙ ap toldOf (sym h)
-
-  pub reply-taken : (other : A) {a : A} → o ≡ taken a → reply 0 a 0 ≡ replyOf other o
-  reply-taken other h = ap (replyOf other) (sym h)
-
-  pub reply-refused : (other : A) {g : Grounds} {k b : ℕ} → o ≡ refused g → grounds k b ≡ g → reply k other b ≡ replyOf other o
-  reply-refused other h t = ap (λ (w : Grounds). replyOf other (refused w)) t ∙ ap (replyOf other) (sym h)
-
 -- a call over a state, which is s after it: p is what its contract says, o what its answer means
-module _ {o : Outcome Unit} {s : List ℕ} {p : Ran (List ℕ) Unit} (e : record { outcome = o; state = s } ≡ p) where
-  pub running-as : {k b : ℕ} → told k b ≡ toldOf o → running k b s ≡ runningOf p
-  running-as t = ap (λ (w : Told). record { told = w; bytes = s }) t ∙ ap runningOf e
-
 module _ {A : Type 0} {o : Outcome A} {place : Place} {log : List ℕ} {p : Ran Standing A} (e : record { outcome = o; state = standing place log } ≡ p) where
   pub moved-as : {k b : ℕ} → told k b ≡ toldOf o → moved k b (place .pos) (place .count) log ≡ movedOf p
   moved-as t = ap (λ (w : Told). record { told = w; pos = place .pos; count = place .count; log = log }) t ∙ ap movedOf e

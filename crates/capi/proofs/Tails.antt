@@ -8,8 +8,8 @@ use Rattle.refusal.specs.Refusals.{Outcome, Ran}
 use Rattle.syntax.specs.declared.Place.{Place}
 use Rattle.syntax.specs.Reads.{Standing, standing}
 use Rattle.frame.specs.declared.Stretch.{Stretch}
-use Rattle.capi.specs.Replies.{Reply, reply, replyOf}
-use Rattle.capi.specs.Frames.{stretch, closed, closedOf}
+use Rattle.convention.specs.Replies.{Reply, reply, replyOf}
+use Rattle.capi.specs.Tails.{stretch, closed, closedOf}
 
 -- p is what the call's contract says, o what its answer means; the block handed back is the cursor's
 module _ {o : Outcome Stretch} {place : Place} {log : List ℕ} {p : Ran Standing Stretch} (e : record { outcome = o; state = standing place log } ≡ p) where

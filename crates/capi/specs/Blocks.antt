@@ -8,7 +8,7 @@ use Rattle.refusal.specs.Refusals.{Ran}
 use Rattle.alloc.specs.Table.{table}
 use Rattle.blocks.specs.declared.Slot.{Slot}
 use Rattle.blocks.specs.declared.Channel.{Channel}
-use Rattle.capi.specs.Replies.{Told, told, toldOf}
+use Rattle.convention.specs.Replies.{Told, told, toldOf}
 
 -- slot i: its exponents, and their range and the range asked for, each from its start to its end
 unfoldable pub slotAt : List Bool → List Bool → List (List ℕ) → List (List ℕ) → ℕ → Slot

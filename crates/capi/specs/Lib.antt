@@ -1,8 +1,7 @@
-pub mod Replies
 pub mod Standings
 pub mod Channels
 pub mod Walks
 pub mod Sets
 pub mod States
 pub mod Blocks
-pub mod Frames
+pub mod Tails

@@ -9,7 +9,7 @@ use Rattle.syntax.specs.declared.Ask.{Ask}
 use Rattle.syntax.specs.declared.Element.{Element}
 use Rattle.syntax.specs.Elements.{roleOf, roleWord}
 use Rattle.syntax.specs.Reads.{Standing}
-use Rattle.capi.specs.Replies.{Reply, reply, replyOf, Told, told, toldOf}
+use Rattle.convention.specs.Replies.{Reply, reply, replyOf, Told, told, toldOf}
 
 -- the cursor and the element asked for, from a caller's numbers
 abbrev pub placeOf : ℕ → ℕ → ℤ → ℕ → Place

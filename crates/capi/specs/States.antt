@@ -11,7 +11,7 @@ use Rattle.tables.specs.declared.Delta.{Delta}
 use Rattle.alloc.specs.Table.{from, table}
 use Rattle.blocks.specs.declared.AllocState.{AllocState}
 use Rattle.blocks.specs.Side.{Stood}
-use Rattle.capi.specs.Replies.{Told, told, toldOf}
+use Rattle.convention.specs.Replies.{Told, told, toldOf}
 use Rattle.capi.specs.Standings.{Moved, moved, movedOf}
 use Rattle.capi.specs.Channels.{deltaFrom}
 

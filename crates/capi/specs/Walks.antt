@@ -4,7 +4,7 @@ use Prim.Native.Nat.{ℕ}
 use Rattle.refusal.specs.Refusals.{Ran}
 use Rattle.walks.specs.declared.Groups.{Groups}
 use Rattle.walks.specs.Walk.{State}
-use Rattle.capi.specs.Replies.{Told, told, toldOf}
+use Rattle.convention.specs.Replies.{Told, told, toldOf}
 
 -- the groups, from a caller's numbers
 abbrev pub groupsOf : ℕ → ℕ → ℕ → Groups

@@ -1,9 +1,9 @@
 // The block allocation of `blocks`. What a caller hands over for each slot stands slot by slot.
-use crate::done;
 use crate::state::state_from;
 use blocks::Channel;
 use blocks::Slot;
 use blocks::Slots;
+use convention::done;
 ghost use mathlib.Core.Path.{_≡_};
 ghost use Prim.Native.Nat.{_<_};
 ghost use Rattle.blocks.specs.Block.{allocateBlockOf};

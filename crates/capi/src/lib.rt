@@ -1,21 +1,18 @@
-// The core for C and Rust: thin functions over the crates' public ones, with one calling convention.
-//
-// A function answers 0 where the call is taken, or the refusal's number. Values and the refusal's bit go into room that the
-// caller lends; a value is 0 where the call is refused, and the bit is 0 where it is taken. A function that never refuses has
-// no room for a bit. include/zelamodurk.h says the same for each function in C's terms.
+// The core for C and Rust, as far as it reads by a cursor or allocates: thin functions over the crates' public ones. `convention`
+// has what a caller is told; a function that never refuses has no room for a bit. include/zelamodurk.h says the same for each
+// function in C's terms.
 pub mod block;
-pub mod frames;
 pub mod mantissas;
 pub mod sets;
 pub mod state;
+pub mod tail;
 
 use alloc::Codes;
 use alloc::Ended;
 use alloc::Leak;
-use bits::Got;
-use bits::Judged;
-use bits::Put;
-use refusal::Refusal;
+use convention::done;
+use convention::got;
+use convention::tell;
 use syntax::Ask;
 use syntax::Found;
 use syntax::Place;
@@ -23,150 +20,14 @@ use tables::Bin;
 use tables::Delta;
 use tables::Pointers;
 ghost use mathlib.Core.Path.{_≡_};
-ghost use mathlib.Core.Bool.{false};
-ghost use lib.ListN.{length, replicate};
-ghost use Rattle.refusal.specs.Refusals.{grounds, groundsOf};
-ghost use Rattle.bits.specs.Answers.{gotOf, doneOf, judgedOf, getOf, setOf, rangeEqOf, rangeZeroOf};
-ghost use Rattle.crc.specs.Crc.{crcOf};
+ghost use lib.ListN.{length};
 ghost use Rattle.syntax.specs.Elements.{roleOf, isDrc, isChecksum, isSpan};
 ghost use Rattle.syntax.specs.Reads.{standing, readOf, rawOf, spanOf, closeOf};
 ghost use Rattle.syntax.specs.Tiling.{tilingOf, elementAt};
 ghost use Rattle.alloc.specs.Answers.{endedOf, allocateOf};
-ghost use Rattle.capi.specs.Replies.{reply, replyOf, told, toldOf, running, runningOf};
+ghost use Rattle.convention.specs.Replies.{reply, replyOf, told, toldOf, running, runningOf};
 ghost use Rattle.capi.specs.Standings.{placeOf, barePlaceOf, askOf, stood, stoodOf, moved, movedOf, advanced, advancedOf, fields, fieldsAt, noFields};
 ghost use Rattle.capi.specs.Channels.{codesFrom, leakFrom, deltaFrom, pointersFrom};
-
-// A refusal's number, with its bit in the room for it.
-fn tell(r: Refusal, bit: &mut usize) -> u8
-    ensures { λ k. ⌜ grounds k (now (bit .exit)) ≡ groundsOf r ⌝ }
-{
-    *bit = r.bit;
-    let why = r.why;
-    refusal::number(why)
-}
-
-// What a call answers that gives no value.
-fn done(answer: Put, bit: &mut usize) -> u8
-    ensures { λ k. ⌜ told k (now (bit .exit)) ≡ toldOf (doneOf answer) ⌝ }
-{
-    match answer {
-        Put::Done => {
-            *bit = 0;
-            0
-        }
-        Put::Refused(r) => tell(r, bit),
-    }
-}
-
-// What a read answers.
-fn got(answer: Got, value: &mut u32, bit: &mut usize) -> u8
-    ensures { λ k. ⌜ reply k (now (value .exit)) (now (bit .exit)) ≡ replyOf 0 (gotOf answer) ⌝ }
-{
-    match answer {
-        Got::Value(v) => {
-            *value = v;
-            *bit = 0;
-            0
-        }
-        Got::Refused(r) => {
-            *value = 0;
-            tell(r, bit)
-        }
-    }
-}
-
-// What a comparison answers.
-fn judged(answer: Judged, is: &mut bool, bit: &mut usize) -> u8
-    ensures { λ k. ⌜ reply k (now (is .exit)) (now (bit .exit)) ≡ replyOf false (judgedOf answer) ⌝ }
-{
-    match answer {
-        Judged::Is(t) => {
-            *is = t;
-            *bit = 0;
-            0
-        }
-        Judged::Refused(r) => {
-            *is = false;
-            tell(r, bit)
-        }
-    }
-}
-
-// bits::get.
-#[no_mangle]
-pub extern "C" fn zela_bits_get(
-    bytes: &[u8],
-    pos: usize,
-    n: usize,
-    value: &mut u32,
-    bit: &mut usize,
-) -> u8
-    ensures { λ k. ⌜ reply k (now (value .exit)) (now (bit .exit)) ≡ replyOf 0 (getOf (now (bytes .entry)) pos n) ⌝ }
-{
-    got(bits::get(bytes, pos, n), value, bit)
-}
-
-// bits::set.
-#[no_mangle]
-pub extern "C" fn zela_bits_set(
-    bytes: &mut [u8],
-    pos: usize,
-    n: usize,
-    value: u32,
-    bit: &mut usize,
-) -> u8
-    ensures { λ k. ⌜ running k (now (bit .exit)) (now (bytes .exit)) ≡ runningOf (setOf (now (bytes .entry)) pos n value) ⌝ }
-{
-    done(bits::set(bytes, pos, n, value), bit)
-}
-
-// bits::range_eq.
-#[no_mangle]
-pub extern "C" fn zela_bits_range_eq(
-    x: &[u8],
-    a: usize,
-    y: &[u8],
-    b: usize,
-    n: usize,
-    is: &mut bool,
-    bit: &mut usize,
-) -> u8
-    ensures { λ k. ⌜ reply k (now (is .exit)) (now (bit .exit)) ≡ replyOf false (rangeEqOf (now (x .entry)) a (now (y .entry)) b n) ⌝ }
-{
-    judged(bits::range_eq(x, a, y, b, n), is, bit)
-}
-
-// bits::range_zero.
-#[no_mangle]
-pub extern "C" fn zela_bits_range_zero(
-    x: &[u8],
-    a: usize,
-    n: usize,
-    is: &mut bool,
-    bit: &mut usize,
-) -> u8
-    ensures { λ k. ⌜ reply k (now (is .exit)) (now (bit .exit)) ≡ replyOf false (rangeZeroOf (now (x .entry)) a n) ⌝ }
-{
-    judged(bits::range_zero(x, a, n), is, bit)
-}
-
-// crc::crc16.
-#[no_mangle]
-pub extern "C" fn zela_crc16(init: u16, bytes: &[u8], value: &mut u16) -> u8
-    ensures { λ k. ⌜ (k ≡ 0) × (now (value .exit) ≡ crcOf init (now (bytes .entry))) ⌝ }
-{
-    *value = crc::crc16(init, bytes);
-    0
-}
-
-// crc::zeros.
-#[no_mangle]
-pub extern "C" fn zela_crc16_zeros(init: u16, n: usize, value: &mut u16) -> u8
-    ensures { λ k. ⌜ (k ≡ 0) × (now (value .exit) ≡ crcOf init (replicate n 0)) ⌝ }
-{
-    *value = crc::zeros(init, n);
-    0
-}
 
 // syntax::is_drc, of the role of a word.
 #[no_mangle]

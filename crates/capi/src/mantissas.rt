@@ -1,14 +1,14 @@
 // The mantissa walks of `walks` and `aht`. A walk looks at no block and no count, and logs nothing.
-use crate::done;
 use crate::place_of;
-use crate::tell;
 use aht::Counted;
+use convention::done;
+use convention::tell;
 use tables::Bin;
 use walks::Groups;
 ghost use mathlib.Core.Path.{_≡_};
 ghost use Rattle.walks.specs.Walk.{walkOf};
 ghost use Rattle.aht.specs.Aht.{endedOf, ahtOf};
-ghost use Rattle.capi.specs.Replies.{reply, replyOf};
+ghost use Rattle.convention.specs.Replies.{reply, replyOf};
 ghost use Rattle.capi.specs.Standings.{barePlaceOf, advanced, advancedOf};
 ghost use Rattle.capi.specs.Walks.{groupsOf, carried, carriedOf};
 

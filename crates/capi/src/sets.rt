@@ -1,6 +1,6 @@
 // The exponent sets of `exponents`.
-use crate::done;
 use crate::place_of;
+use convention::done;
 use tables::Bin;
 ghost use mathlib.Core.Path.{_≡_};
 ghost use Rattle.syntax.specs.Reads.{standing};

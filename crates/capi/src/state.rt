@@ -1,7 +1,7 @@
 // The allocation state of `blocks`, in a caller's 200 bytes: eight rows of 25, first the codes, and then the segments of each slot.
-use crate::done;
 use crate::place_of;
 use blocks::AllocState;
+use convention::done;
 use tables::Delta;
 ghost use mathlib.Core.Path.{_≡_};
 ghost use Prim.Native.Nat.{_≤_};

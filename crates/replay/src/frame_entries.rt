@@ -8,7 +8,7 @@ pub fn probe(frame: &[u8]) -> Row {
     let mut eac3 = false;
     let mut bytes: usize = 0;
     let mut bit: usize = 0;
-    let number = capi::frames::zela_probe(frame, &mut eac3, &mut bytes, &mut bit);
+    let number = capi_bytes::zela_probe(frame, &mut eac3, &mut bytes, &mut bit);
     let mut row = [0; numbers::ROOM];
     row[0] = number as usize;
     row[1] = bit;
@@ -25,7 +25,7 @@ pub fn read_tail(frame: &[u8], log: &mut [u32], args: Row) -> Row {
     let mut start: usize = 0;
     let mut width: usize = 0;
     let mut bit: usize = 0;
-    let number = capi::frames::zela_read_tail(
+    let number = capi::tail::zela_read_tail(
         frame,
         log,
         &mut pos,
@@ -54,7 +54,7 @@ pub fn crc_status(frame: &[u8], args: Row) -> Row {
     let mut crc1 = false;
     let mut crc2 = false;
     let mut bit: usize = 0;
-    let number = capi::frames::zela_crc_status(frame, args[0] == 1, &mut crc1, &mut crc2, &mut bit);
+    let number = capi_bytes::zela_crc_status(frame, args[0] == 1, &mut crc1, &mut crc2, &mut bit);
     let mut row = [0; numbers::ROOM];
     row[0] = number as usize;
     row[1] = bit;
@@ -66,7 +66,7 @@ pub fn crc_status(frame: &[u8], args: Row) -> Row {
 // EAC3
 pub fn repair(frame: &mut [u8], args: Row) -> Row {
     let mut bit: usize = 0;
-    let number = capi::frames::zela_repair(frame, args[0] == 1, &mut bit);
+    let number = capi_bytes::zela_repair(frame, args[0] == 1, &mut bit);
     let mut row = [0; numbers::ROOM];
     row[0] = number as usize;
     row[1] = bit;

@@ -1,5 +1,5 @@
 /*
- * Runs the archive for a caller on another processor: reads calls from standard input and writes
+ * Runs the archives for a caller on another processor: reads calls from standard input and writes
  * what each answers to standard output, until the input ends. src/relay.rs is the other side.
  *
  * A call is the function's place in the table below and how many arguments follow, a byte each, and
@@ -32,13 +32,15 @@ typedef uint8_t any(word, word, word, word, word, word, word, word, word, word, 
 static any *const functions[] = {
     FUNCTION(zela_bits_get),        FUNCTION(zela_bits_set),         FUNCTION(zela_bits_range_eq),
     FUNCTION(zela_bits_range_zero), FUNCTION(zela_crc16),            FUNCTION(zela_crc16_zeros),
+    FUNCTION(zela_probe),           FUNCTION(zela_crc_status),       FUNCTION(zela_repair),
+#ifdef ZELA_CURSOR /* build.rs defines it with the feature `cursor`, which links libcapi.a */
     FUNCTION(zela_role_is_drc),     FUNCTION(zela_role_is_checksum), FUNCTION(zela_role_is_span),
     FUNCTION(zela_read_element),    FUNCTION(zela_read_raw),         FUNCTION(zela_span),
     FUNCTION(zela_close_span),      FUNCTION(zela_check_tiling),     FUNCTION(zela_element_at),
-    FUNCTION(zela_allocate),        FUNCTION(zela_read_exponents),   FUNCTION(zela_conventional),
-    FUNCTION(zela_aht),             FUNCTION(zela_delta_code),       FUNCTION(zela_read_delta),
-    FUNCTION(zela_allocate_block),  FUNCTION(zela_probe),            FUNCTION(zela_read_tail),
-    FUNCTION(zela_crc_status),      FUNCTION(zela_repair),
+    FUNCTION(zela_read_tail),       FUNCTION(zela_allocate),         FUNCTION(zela_read_exponents),
+    FUNCTION(zela_conventional),    FUNCTION(zela_aht),              FUNCTION(zela_delta_code),
+    FUNCTION(zela_read_delta),      FUNCTION(zela_allocate_block),
+#endif
 };
 
 static uint8_t ahead[65536];

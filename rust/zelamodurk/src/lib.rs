@@ -5,6 +5,10 @@
 //! `Result<_, Refusal>`, and panic on no input. What each one answers is said in
 //! `include/zelamodurk.h` and proved in the core; this crate only carries it over.
 //!
+//! The feature `cursor`, which is on by default, has all that reads by a cursor or allocates. Without it
+//! there are [`bits`], [`crc`], the refusals, and of [`frame`] the header and the checksums. A clean build
+//! proves what it links, and that is far less then.
+//!
 //! ```
 //! use zelamodurk::{bits, Why};
 //!
@@ -13,11 +17,15 @@
 //! assert_eq!(bits::get(&frame, 0, 17).unwrap_err().why, Why::PastLimit);
 //! ```
 
+#[cfg(feature = "cursor")]
 pub mod aht;
+#[cfg(feature = "cursor")]
 pub mod alloc;
 pub mod bits;
+#[cfg(feature = "cursor")]
 pub mod blocks;
 pub mod crc;
+#[cfg(feature = "cursor")]
 pub mod exponents;
 #[cfg_attr(not(target_arch = "x86_64"), allow(dead_code, unused_imports))]
 mod ffi;
@@ -25,7 +33,9 @@ pub mod frame;
 mod refusal;
 #[cfg(not(target_arch = "x86_64"))]
 mod relay;
+#[cfg(feature = "cursor")]
 pub mod syntax;
+#[cfg(feature = "cursor")]
 pub mod walks;
 
 #[cfg(target_arch = "x86_64")]
@@ -35,6 +45,6 @@ use relay as core;
 
 pub use refusal::{Refusal, Why};
 
-/// Whether the core runs under the kit's emulator, since the archive holds x86-64 code alone. Times
-/// say nothing then.
+/// Whether the core runs under the kit's emulator, since the archives hold x86-64 code alone.
+/// Times say nothing then.
 pub const EMULATED: bool = cfg!(not(target_arch = "x86_64"));

@@ -50,7 +50,7 @@ pub enum Why {
     BadLength = 20,
     /// The lent tables are unfit.
     BadTables = 21,
-    /// A number outside the table: the archive is another than this crate was written for.
+    /// A number outside the table: the archives are others than this crate was written for.
     Unlisted = 255,
 }
 

@@ -2,7 +2,7 @@
 -- Assumes nothing.
 use mathlib.Core.Path.{ap}
 use Rattle.alloc.specs.Answers.{endedOf}
-use Rattle.capi.proofs.Laws.{told-taken, told-refused}
+use Rattle.convention.proofs.Laws.{told-taken, told-refused}
 use borrow.Author.Needs.{needs}
 use Rattle.capi.proofs.ended.Statement.{statement}
 use Rattle.capi.proofs.ended.Tie as tie

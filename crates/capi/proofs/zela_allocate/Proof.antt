@@ -2,7 +2,8 @@
 -- Assumes nothing.
 use mathlib.Core.Path.{_∙_}
 use denote.Ref.{now}
-use Rattle.capi.proofs.Laws.{running-as, allocated-alike}
+use Rattle.convention.proofs.Laws.{running-as}
+use Rattle.capi.proofs.Laws.{allocated-alike}
 use borrow.Author.Needs.{needs}
 use Rattle.capi.proofs.zela_allocate.Statement.{statement}
 use Rattle.capi.proofs.zela_allocate.Tie as tie

@@ -1,7 +1,7 @@
 -- `capi::zela_check_tiling` meets its contract: it hands over what the call below it answers.
 -- Assumes nothing.
 use mathlib.Core.Path.{ap, _∙_}
-use Rattle.capi.specs.Replies.{toldOf}
+use Rattle.convention.specs.Replies.{toldOf}
 use borrow.Author.Needs.{needs}
 use Rattle.capi.proofs.zela_check_tiling.Statement.{statement}
 use Rattle.capi.proofs.zela_check_tiling.Tie as tie

@@ -6,9 +6,9 @@ use mir.Syntax.{w8, w16}
 use mir.Val.{SFits}
 use mir.Facts.{toZ-ofZ}
 use Rattle.syntax.specs.Tiling.{foundOf}
-use Rattle.capi.specs.Replies.{reply, replyOf}
+use Rattle.convention.specs.Replies.{reply, replyOf}
 use Rattle.capi.specs.Standings.{fields, fieldsAt, noFields}
-use Rattle.capi.proofs.Laws.{reply-refused}
+use Rattle.convention.proofs.Laws.{reply-refused}
 use borrow.Author.Needs.{needs}
 use Rattle.capi.proofs.zela_element_at.Statement.{statement}
 use Rattle.capi.proofs.zela_element_at.Tie as tie

@@ -1,7 +1,7 @@
 //! The boundary of what reads, walks and allocates slots. Each call is safe as the module above says;
 //! each array has the length that the header says.
 
-use crate::alloc::{Bin, Tables, BINS};
+use crate::alloc::{Bin, Channel, Plain, Tables, BINS};
 use crate::blocks::{self, Block, Slots, State, STATE};
 use crate::exponents::{Ask, ExpSet};
 use crate::refusal::{outcome, Refusal};
@@ -9,6 +9,26 @@ use crate::syntax::Place;
 use crate::walks::Groups;
 
 extern "C" {
+    fn zela_allocate(
+        exponents: *const u8,
+        start: usize,
+        end: usize,
+        codes: *const u8,
+        has_leak: bool,
+        cplfleak: u8,
+        cplsleak: u8,
+        segments: u8,
+        offset: *const u8,
+        length: *const u8,
+        ba: *const u8,
+        high: bool,
+        hearing: *const u16,
+        hearing_len: usize,
+        log_add: *const u8,
+        log_add_len: usize,
+        bap: *mut u8,
+        bit: *mut usize,
+    ) -> u8;
     fn zela_read_exponents(
         frame: *const u8,
         frame_len: usize,
@@ -85,6 +105,36 @@ extern "C" {
         bap: *mut u8,
         bit: *mut usize,
     ) -> u8;
+}
+
+#[inline]
+pub fn allocate(channel: &Channel, tables: &Tables) -> Result<[u8; BINS], Refusal> {
+    let plain = Plain::of(channel);
+    let (mut bap, mut bit) = ([0; BINS], 0);
+    // SAFETY: as the module says.
+    let number = unsafe {
+        zela_allocate(
+            channel.exponents.as_ptr(),
+            channel.start.0,
+            channel.end.0,
+            plain.codes.as_ptr(),
+            plain.has_leak,
+            plain.cplfleak,
+            plain.cplsleak,
+            plain.delta.count,
+            plain.delta.offset.as_ptr(),
+            plain.delta.len.as_ptr(),
+            plain.delta.ba.as_ptr(),
+            plain.high,
+            tables.hearing.as_ptr(),
+            tables.hearing.len(),
+            tables.log_add.as_ptr(),
+            tables.log_add.len(),
+            bap.as_mut_ptr(),
+            &mut bit,
+        )
+    };
+    outcome(number, bit, bap)
 }
 
 #[inline]

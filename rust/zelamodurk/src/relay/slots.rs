@@ -1,13 +1,47 @@
 //! The calls of what reads, walks and allocates slots.
 
-use super::{call, signed, size, Function};
-use super::{Array, Bytes, ChangedLog, Halves, Number, Room};
-use crate::alloc::{Bin, Tables, BINS};
+use super::elements::{log_bytes, set_log, signed, Function, LOG};
+use super::{call, room, size, BYTES, ROOM};
+use super::{Changed, Number, Read};
+use crate::alloc::{Bin, Channel, Plain, Tables, BINS};
 use crate::blocks::{self, Block, Slots, State};
 use crate::exponents::{Ask, ExpSet};
 use crate::refusal::{outcome, Refusal};
 use crate::syntax::Place;
 use crate::walks::Groups;
+
+/// Words of 16 bits, which pass as a pointer and their number.
+const HALVES: u8 = 4;
+
+/// Such words as they stand in memory on x86-64.
+fn half_bytes(halves: &[u16]) -> Vec<u8> {
+    halves.iter().flat_map(|half| half.to_le_bytes()).collect()
+}
+
+pub fn allocate(channel: &Channel, tables: &Tables) -> Result<[u8; BINS], Refusal> {
+    let plain = Plain::of(channel);
+    let (mut bap, mut bit) = ([0; BINS], [0; 8]);
+    let lent = &mut [
+        Read(ROOM, channel.exponents),
+        size(channel.start.0),
+        size(channel.end.0),
+        Read(ROOM, &plain.codes),
+        Number(plain.has_leak.into()),
+        Number(plain.cplfleak.into()),
+        Number(plain.cplsleak.into()),
+        Number(plain.delta.count.into()),
+        Read(ROOM, &plain.delta.offset),
+        Read(ROOM, &plain.delta.len),
+        Read(ROOM, &plain.delta.ba),
+        Number(plain.high.into()),
+        Read(HALVES, &half_bytes(tables.hearing)),
+        Read(BYTES, tables.log_add),
+        room(&mut bap),
+        room(&mut bit),
+    ];
+    let number = call(Function::Allocate as u8, lent);
+    outcome(number, usize::from_le_bytes(bit), bap)
+}
 
 pub fn read_exponents(
     frame: &[u8],
@@ -18,23 +52,25 @@ pub fn read_exponents(
 ) -> Result<(), Refusal> {
     let (mut pos, mut count) = (place.pos.to_le_bytes(), place.count.to_le_bytes());
     let (mut exp_start, mut exp_end, mut bit) = ([0; 8], [0; 8], [0; 8]);
+    let mut words = log_bytes(log);
     let lent = &mut [
-        Bytes(frame),
-        ChangedLog(log),
-        Room(&mut pos),
+        Read(BYTES, frame),
+        Changed(LOG, &mut words),
+        room(&mut pos),
         size(place.limit),
         signed(place.block),
-        Room(&mut count),
+        room(&mut count),
         Number(ask.slot.into()),
         Number(ask.strategy.into()),
         size(ask.start.0),
         size(ask.end.0),
-        Room(&mut set.exp),
-        Room(&mut exp_start),
-        Room(&mut exp_end),
-        Room(&mut bit),
+        room(&mut set.exp),
+        room(&mut exp_start),
+        room(&mut exp_end),
+        room(&mut bit),
     ];
-    let number = call(Function::ReadExponents, lent);
+    let number = call(Function::ReadExponents as u8, lent);
+    set_log(log, &words);
     place.pos = usize::from_le_bytes(pos);
     place.count = usize::from_le_bytes(count);
     set.start = Bin(usize::from_le_bytes(exp_start));
@@ -53,18 +89,18 @@ pub fn conventional(
     let (mut pos, mut bit) = (place.pos.to_le_bytes(), [0; 8]);
     let (mut g1, mut g2, mut g4) = ([groups.g1], [groups.g2], [groups.g4]);
     let lent = &mut [
-        Bytes(frame),
-        Room(&mut pos),
+        Read(BYTES, frame),
+        room(&mut pos),
         size(place.limit),
-        Array(bap),
+        Read(ROOM, bap),
         size(start.0),
         size(end.0),
-        Room(&mut g1),
-        Room(&mut g2),
-        Room(&mut g4),
-        Room(&mut bit),
+        room(&mut g1),
+        room(&mut g2),
+        room(&mut g4),
+        room(&mut bit),
     ];
-    let number = call(Function::Conventional, lent);
+    let number = call(Function::Conventional as u8, lent);
     place.pos = usize::from_le_bytes(pos);
     [groups.g1, groups.g2, groups.g4] = [g1[0], g2[0], g4[0]];
     outcome(number, usize::from_le_bytes(bit), ())
@@ -80,16 +116,16 @@ pub fn aht(
     let mut pos = place.pos.to_le_bytes();
     let (mut tags, mut bit) = ([0; 8], [0; 8]);
     let lent = &mut [
-        Bytes(frame),
-        Room(&mut pos),
+        Read(BYTES, frame),
+        room(&mut pos),
         size(place.limit),
-        Array(hebap),
+        Read(ROOM, hebap),
         size(start.0),
         size(end.0),
-        Room(&mut tags),
-        Room(&mut bit),
+        room(&mut tags),
+        room(&mut bit),
     ];
-    let number = call(Function::Aht, lent);
+    let number = call(Function::Aht as u8, lent);
     place.pos = usize::from_le_bytes(pos);
     outcome(
         number,
@@ -101,13 +137,13 @@ pub fn aht(
 pub fn delta_code(state: &mut State, slot: usize, code: u32, block0: bool) -> Result<(), Refusal> {
     let (mut bytes, mut bit) = (state.bytes(), [0; 8]);
     let lent = &mut [
-        Room(&mut bytes),
+        room(&mut bytes),
         size(slot),
         Number(code.into()),
         Number(block0.into()),
-        Room(&mut bit),
+        room(&mut bit),
     ];
-    let number = call(Function::DeltaCode, lent);
+    let number = call(Function::DeltaCode as u8, lent);
     *state = State::of_bytes(&bytes);
     outcome(number, usize::from_le_bytes(bit), ())
 }
@@ -121,18 +157,20 @@ pub fn read_delta(
 ) -> Result<(), Refusal> {
     let (mut pos, mut count) = (place.pos.to_le_bytes(), place.count.to_le_bytes());
     let (mut bytes, mut bit) = (state.bytes(), [0; 8]);
+    let mut words = log_bytes(log);
     let lent = &mut [
-        Bytes(frame),
-        ChangedLog(log),
-        Room(&mut pos),
+        Read(BYTES, frame),
+        Changed(LOG, &mut words),
+        room(&mut pos),
         size(place.limit),
         signed(place.block),
-        Room(&mut count),
-        Room(&mut bytes),
+        room(&mut count),
+        room(&mut bytes),
         size(slot),
-        Room(&mut bit),
+        room(&mut bit),
     ];
-    let number = call(Function::ReadDelta, lent);
+    let number = call(Function::ReadDelta as u8, lent);
+    set_log(log, &words);
     place.pos = usize::from_le_bytes(pos);
     place.count = usize::from_le_bytes(count);
     *state = State::of_bytes(&bytes);
@@ -156,17 +194,17 @@ pub fn allocate_block(
         .collect();
     let mut bit = [0; 8];
     let lent = &mut [
-        Array(&state.bytes()),
+        Read(ROOM, &state.bytes()),
         Number(fscod.into()),
-        Array(&plain.present.map(u8::from)),
-        Array(&plain.high.map(u8::from)),
-        Array(plain.exponents.as_flattened()),
-        Array(&ranges),
-        Halves(tables.hearing),
-        Bytes(tables.log_add),
-        Room(pointers.as_flattened_mut()),
-        Room(&mut bit),
+        Read(ROOM, &plain.present.map(u8::from)),
+        Read(ROOM, &plain.high.map(u8::from)),
+        Read(ROOM, plain.exponents.as_flattened()),
+        Read(ROOM, &ranges),
+        Read(HALVES, &half_bytes(tables.hearing)),
+        Read(BYTES, tables.log_add),
+        room(pointers.as_flattened_mut()),
+        room(&mut bit),
     ];
-    let number = call(Function::AllocateBlock, lent);
+    let number = call(Function::AllocateBlock as u8, lent);
     outcome(number, usize::from_le_bytes(bit), ())
 }

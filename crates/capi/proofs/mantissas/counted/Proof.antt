@@ -2,7 +2,7 @@
 -- Assumes nothing.
 use mathlib.Core.Path.{ap}
 use Rattle.aht.specs.Aht.{endedOf}
-use Rattle.capi.proofs.Laws.{reply-taken, reply-refused}
+use Rattle.convention.proofs.Laws.{reply-taken, reply-refused}
 use borrow.Author.Needs.{needs}
 use Rattle.capi.proofs.mantissas.counted.Statement.{statement}
 use Rattle.capi.proofs.mantissas.counted.Tie as tie
