@@ -14,6 +14,7 @@ mod output;
 mod progress;
 mod repair;
 mod report;
+mod same;
 mod trouble;
 mod window;
 

@@ -7,14 +7,14 @@ use crate::input::{spoken, Input};
 use crate::outcome::{name, print, say, Failure, Outcome};
 use crate::output::Output;
 use crate::report::{report, Side, Told, Value};
+use crate::same::are_same;
 use crate::trouble::{bad_values, Bad, Place, Trouble, BAD_KEYS};
 use std::ffi::OsStr;
 use std::fs;
-use std::os::unix::fs::MetadataExt;
 
 /// Repairs one file into another.
 pub fn run(from: &OsStr, to: &OsStr, shown: Shown) -> Result<Outcome, Failure> {
-    if from != "-" && are_same(from, to) {
+    if are_same(from, to) {
         let words = format!("{}: IN and OUT are the same file; use --in-place", name(to));
         return Err(Failure::new(Outcome::Usage, words));
     }
@@ -46,14 +46,6 @@ pub fn run_in_place(file: &OsStr, shown: Shown) -> Result<Outcome, Failure> {
     }
     done.out = name(file);
     done.tell(shown)
-}
-
-/// Whether both names lead to one file.
-fn are_same(one: &OsStr, other: &OsStr) -> bool {
-    match (fs::metadata(one), fs::metadata(other)) {
-        (Ok(one), Ok(other)) => (one.dev(), one.ino()) == (other.dev(), other.ino()),
-        _ => false,
-    }
 }
 
 fn rewrite(from: &OsStr, input: Input, output: &mut Output) -> Result<Done, Failure> {

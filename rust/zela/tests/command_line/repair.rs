@@ -1,7 +1,7 @@
 //! `zela repair`: what is written, and what stays as it was.
 
 use crate::room::{ac3, eac3, noise, wrong, Ran, Room};
-use std::fs;
+use std::fs::{self, File, OpenOptions};
 use std::os::unix::fs::{symlink, FileTypeExt, MetadataExt, PermissionsExt};
 use std::process::{Command, Stdio};
 
@@ -134,6 +134,45 @@ a.ac3  a.ac3      13         1         0  written
     assert_eq!(room.get("a.ac3")[700], ac3()[700] ^ 1);
     room.writes(&["check", "-q", "a.ac3"], 0, "", "");
     assert_eq!(room.list(), ["a.ac3"]);
+}
+
+/// Standard input is `a.ac3`, and so is standard output where frames go there: nothing may come of it.
+#[track_caller]
+fn is_refused(room: &Room, from: &str, to: &str, said: &str) {
+    let old = room.get("a.ac3");
+    let mut command = room.command(&["repair", from, to]);
+    command.stdin(File::open(room.path("a.ac3")).unwrap());
+    let appended = OpenOptions::new().append(true).open(room.path("a.ac3"));
+    if to == "-" {
+        command.stdout(appended.unwrap());
+    }
+    let err = format!("zela: {said}: IN and OUT are the same file; use --in-place\n");
+    Ran::of(command.output().unwrap()).is(2, "", &err);
+    assert_eq!(room.get("a.ac3"), old);
+}
+
+#[test]
+fn standard_streams_are_not_in_place_either() {
+    let room = Room::of("streams_in_place");
+    room.put("a.ac3", &ac3()[..1000]);
+    fs::hard_link(room.path("a.ac3"), room.path("hard")).unwrap();
+    symlink("a.ac3", room.path("soft")).unwrap();
+    for file in ["a.ac3", "hard", "soft"] {
+        is_refused(&room, "-", file, file);
+        is_refused(&room, file, "-", "-");
+    }
+    is_refused(&room, "hard", "soft", "soft");
+    is_refused(&room, "/dev/stdin", "a.ac3", "a.ac3");
+    is_refused(&room, "-", "-", "-");
+    assert_eq!(room.list(), ["a.ac3", "hard", "soft"]);
+}
+
+#[test]
+fn streams_of_one_device_are_no_file() {
+    let room = Room::of("one_device");
+    let mut command = room.command(&["repair", "-q", "-", "-"]);
+    command.stdin(Stdio::null()).stdout(Stdio::null());
+    Ran::of(command.output().unwrap()).is(1, "", "");
 }
 
 #[test]

@@ -1,0 +1,35 @@
+//! Whether an input and an output are one file.
+
+use std::ffi::OsStr;
+use std::fs::{self, File, Metadata};
+use std::io;
+use std::os::fd::AsFd;
+use std::os::unix::fs::{FileTypeExt, MetadataExt};
+
+/// Whether `from` would be overwritten by what is written to `to`.
+pub fn are_same(from: &OsStr, to: &OsStr) -> bool {
+    match (known(from, io::stdin()), known(to, io::stdout())) {
+        (Ok(from), Ok(to)) => place(&from) == place(&to) && gives_back(&from),
+        _ => false,
+    }
+}
+
+/// What the system knows of a file, or of a standard stream for `-`.
+fn known(file: &OsStr, standard: impl AsFd) -> io::Result<Metadata> {
+    match file == "-" {
+        true => File::from(standard.as_fd().try_clone_to_owned()?).metadata(),
+        false => fs::metadata(file),
+    }
+}
+
+/// Links of either kind lead to the same place.
+fn place(known: &Metadata) -> (u64, u64) {
+    (known.dev(), known.ino())
+}
+
+/// Whether what is written there is read there again: not so of a terminal, the null device or a socket,
+/// which may well be both standard input and standard output.
+fn gives_back(known: &Metadata) -> bool {
+    let kind = known.file_type();
+    !kind.is_char_device() && !kind.is_socket()
+}
