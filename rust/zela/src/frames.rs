@@ -5,6 +5,10 @@
 //! follows, and no frame with good checksums begins inside it: a wrong length would swallow that one. Any
 //! other byte is skipped. The rule looks at no byte before it, so that after damage the first frame is
 //! found as if the input began there.
+//!
+//! The work is bounded by the input's length, whatever it holds: a place is judged at most twice, where a gap
+//! ends and as what stands next, and tried at most once from before it. So it costs at most 5 probes and 3
+//! runs of checksums.
 
 use crate::clock::Time;
 use crate::core::{self, Codec, Header, Refusal, Status};
@@ -40,6 +44,7 @@ pub enum Item<'a> {
 /// A reader of frames.
 pub struct Frames<R> {
     window: Window<R>,
+    ahead: Ahead,
     time: Time,
 }
 
@@ -47,6 +52,7 @@ impl<R: Read> Frames<R> {
     pub fn new(input: R) -> Self {
         Frames {
             window: Window::new(input),
+            ahead: Ahead::default(),
             time: Time::default(),
         }
     }
@@ -73,8 +79,20 @@ impl<R: Read> Frames<R> {
         Ok(Some((place, item)))
     }
 
-    fn judged(&self) -> Result<(Header, Status), Trouble> {
-        judge(self.window.held(), self.window.is_last())
+    /// Whether a frame begins where the reader stands.
+    fn judged(&mut self) -> Result<(Header, Status), Trouble> {
+        let (bytes, here) = (self.window.held(), self.window.offset());
+        let (header, status) = whole(bytes)?;
+        if status.is_good() {
+            return Ok((header, status));
+        }
+        let after = bytes.get(header.bytes..).unwrap_or_default();
+        let ends_well = (self.window.is_last() && after.is_empty()) || probe(after).is_ok();
+        if ends_well && !self.ahead.holds_good(bytes, here, header.bytes) {
+            return Ok((header, status));
+        }
+        let whole = header.bytes as u64;
+        Err(Trouble::Lone { status, whole })
     }
 
     fn take(&mut self, header: Header, status: Status) -> Frame<'_> {
@@ -103,16 +121,34 @@ impl<R: Read> Frames<R> {
     }
 }
 
-/// Whether a frame begins with these bytes; `are_last` where the input ends with them.
-fn judge(bytes: &[u8], are_last: bool) -> Result<(Header, Status), Trouble> {
-    let (header, status) = whole(bytes)?;
-    let after = bytes.get(header.bytes..).unwrap_or_default();
-    let ends_well = (are_last && after.is_empty()) || probe(after).is_ok();
-    if status.is_good() || (ends_well && !holds_another(bytes, header.bytes)) {
-        return Ok((header, status));
+/// What is known of good frames past the reader. Frames that claim the same bytes ask for them again and
+/// again, so that what was found is kept, by offsets of the input.
+#[derive(Default)]
+struct Ahead {
+    /// No frame with good checksums begins after the reader and before this.
+    clear: u64,
+    /// Whether one begins here.
+    found: bool,
+}
+
+impl Ahead {
+    /// Whether a frame with good checksums begins inside the first one of these bytes, which stand at `here`.
+    fn holds_good(&mut self, bytes: &[u8], here: u64, first: usize) -> bool {
+        if self.clear <= here {
+            self.clear = here + next_sync(bytes) as u64;
+            self.found = false;
+        }
+        let end = here + first as u64;
+        while !self.found && self.clear < end {
+            let at = (self.clear - here) as usize;
+            let rest = bytes.get(at..).unwrap_or_default();
+            self.found = whole(rest).is_ok_and(|(_, status)| status.is_good());
+            if !self.found {
+                self.clear += next_sync(rest) as u64;
+            }
+        }
+        self.found && self.clear < end
     }
-    let whole = header.bytes as u64;
-    Err(Trouble::Lone { status, whole })
 }
 
 /// What the core makes of these bytes as a header; it looks at no others.
@@ -129,18 +165,6 @@ fn whole(bytes: &[u8]) -> Result<(Header, Status), Trouble> {
     };
     let status = core::crc_status(frame, header.codec).map_err(Trouble::Refused)?;
     Ok((header, status))
-}
-
-/// Whether a frame with good checksums begins inside the first one, which has so many bytes.
-fn holds_another(bytes: &[u8], first: usize) -> bool {
-    let mut at = 0;
-    while let Some(rest) = bytes.get(at..).filter(|_| at < first) {
-        if at > 0 && whole(rest).is_ok_and(|(_, status)| status.is_good()) {
-            return true;
-        }
-        at += next_sync(rest);
-    }
-    false
 }
 
 /// How far it is from these bytes' first to the next that may begin a frame: a sync word, or half of one

@@ -1,10 +1,13 @@
 use super::*;
+use crate::core::counted;
 use std::cmp::min;
 
 const AC3: &[u8] = include_bytes!("../../../../samples/a_mono_48_64k.ac3");
 const EAC3: &[u8] = include_bytes!("../../../../samples/e_mono_48.eac3");
 /// The bytes of each frame of both.
 const WHOLE: usize = 256;
+/// The emulated core is slow.
+const FILES: usize = if zelamodurk::EMULATED { 200 } else { 5000 };
 
 /// An item without its bytes.
 #[derive(Clone, Copy, Debug, PartialEq, Eq)]
@@ -157,6 +160,130 @@ fn headers_without_end_take_no_frame_and_no_long_time() {
     // Each is that of an E-AC-3 frame of 4,096 bytes, and none stands where another ends.
     let bytes = [0x0B, 0x77, 0x07, 0xFF, 0x00, 0x80].repeat(10_000);
     assert_eq!(shares(&seen(&bytes[..])), (0, bytes.len()));
+}
+
+/// The rule as it is written, over a whole input and with nothing kept from place to place.
+fn plainly(bytes: &[u8]) -> Vec<Seen> {
+    let stand: Vec<_> = (0..bytes.len()).map(|at| whole(&bytes[at..])).collect();
+    let is_good = |at: usize| stand[at].is_ok_and(|(_, status)| status.is_good());
+    let judged = |at: usize| {
+        let (header, status) = stand[at]?;
+        let end = at + header.bytes;
+        let ends_well = end == bytes.len() || probe(&bytes[end..]).is_ok();
+        let whole = header.bytes as u64;
+        match is_good(at) || (ends_well && !(at + 1..end).any(is_good)) {
+            true => Ok((header, status)),
+            false => Err(Trouble::Lone { status, whole }),
+        }
+    };
+    let mut items = Vec::new();
+    let mut at = 0;
+    while at < bytes.len() {
+        let mut later = at + 1..bytes.len();
+        let (item, end) = match judged(at) {
+            Ok((Header { bytes, .. }, status)) => {
+                (Seen::Frame(at as u64, bytes, status), at + bytes)
+            }
+            Err(trouble) => {
+                let end = later.find(|next| judged(*next).is_ok());
+                let end = end.unwrap_or(bytes.len());
+                let count = (end - at) as u64;
+                (Seen::Gap(at as u64, count, trouble.before_next(count)), end)
+            }
+        };
+        items.push(item);
+        at = end;
+    }
+    items
+}
+
+/// An E-AC-3 header that claims so many bytes, and two bytes more.
+fn claim(bytes: usize) -> [u8; 8] {
+    let [high, low] = ((bytes / 2 - 1) as u16).to_be_bytes();
+    [0x0B, 0x77, high, low, 0, 0x80, 0, 0]
+}
+
+/// An E-AC-3 frame of such bytes with a good checksum.
+fn good(mut bytes: Vec<u8>) -> Vec<u8> {
+    core::repair(&mut bytes, Codec::Eac3).unwrap();
+    bytes
+}
+
+/// A piece of a file that is made to have frames inside frames, by a number.
+fn piece(number: usize) -> Vec<u8> {
+    let (kind, size) = (number % 8, number / 8 % 16 * 8);
+    match kind {
+        0 => good(claim(8).to_vec()),
+        1 => claim(8).to_vec(),
+        2 | 3 => claim(size + 8).to_vec(),
+        4 => claim(core::LONGEST).to_vec(),
+        5 => good([&claim(size + 8)[..], &claim(24).repeat(size / 8)].concat()),
+        6 => [0x0B, 0x77].repeat(size / 8),
+        _ => noise(size / 4),
+    }
+}
+
+/// Numbers that look like chance, the same each time.
+fn chances() -> impl FnMut() -> usize {
+    let mut state: u64 = 0x0B77;
+    move || {
+        state ^= state << 13;
+        state ^= state >> 7;
+        state ^= state << 17;
+        (state >> 8) as usize
+    }
+}
+
+/// A file of such pieces; every other one is cut somewhere in the last of them.
+fn pieces(number: usize, mut next: impl FnMut() -> usize) -> Vec<u8> {
+    let count = next() % 30;
+    let pieces: Vec<Vec<u8>> = (0..count).map(|_| piece(next())).collect();
+    let mut bytes = pieces.concat();
+    let cut = number % 2 * (next() % 8);
+    bytes.truncate(bytes.len().saturating_sub(cut));
+    bytes
+}
+
+#[test]
+fn what_is_kept_makes_no_difference() {
+    let mut next = chances();
+    let (mut good, mut bad, mut gaps) = (0, 0, 0);
+    for number in 0..FILES {
+        let bytes = pieces(number, &mut next);
+        let items = seen(Uneven(&bytes, number));
+        assert_eq!(items, plainly(&bytes), "file {number}: {bytes:02X?}");
+        for item in items {
+            match item {
+                Seen::Frame(_, _, status) if status.is_good() => good += 1,
+                Seen::Frame(..) => bad += 1,
+                Seen::Gap(..) => gaps += 1,
+            }
+        }
+    }
+    let counts = [good, bad, gaps];
+    assert!(counts.iter().all(|count| *count > 300), "{counts:?}");
+}
+
+#[test]
+fn frames_that_claim_the_same_bytes_are_tried_once() {
+    // Each header is followed by another where its 4,096 bytes end, and a good frame is among them.
+    let row = [
+        &claim(core::LONGEST).repeat(511),
+        &good(claim(8).to_vec())[..],
+    ]
+    .concat();
+    let bytes = row.repeat(3);
+    counted::take();
+    let items = seen(&bytes[..]);
+    let calls = counted::take();
+    assert_eq!(items, plainly(&bytes));
+    assert_eq!(shares(&items), (3 * 8, bytes.len() - 3 * 8));
+    let places = bytes.len() / 8;
+    assert!(calls.probe <= 5 * places, "{calls:?} of {places} places");
+    assert!(
+        calls.crc_status <= 3 * places,
+        "{calls:?} of {places} places"
+    );
 }
 
 #[test]
