@@ -1,6 +1,6 @@
 //! The words of the command line.
 
-use crate::outcome::{name, Failure, Outcome};
+use crate::outcome::{said, Failure, Outcome};
 use std::ffi::{OsStr, OsString};
 
 pub const HELP: &str = "\
@@ -106,7 +106,7 @@ pub fn parse(words: impl Iterator<Item = OsString>) -> Result<Command, Failure> 
         "repair" => repair(rest, shown),
         "bits" if shown.quiet => misuse("--quiet does not go with bits".to_string()),
         "bits" => bits(rest, shown),
-        _ => misuse(format!("no such command: {}", name(command))),
+        _ => misuse(format!("no such command: {}", said(command))),
     }
 }
 
@@ -124,7 +124,7 @@ fn sort(mut words: impl Iterator<Item = OsString>) -> Result<Words, Failure> {
             text => match text.strip_prefix("--format=") {
                 Some(value) => sorted.shown.format = format(Some(OsStr::new(value)))?,
                 None if word.as_encoded_bytes().starts_with(b"-") => {
-                    return misuse(format!("no such option: {}", name(&word)));
+                    return misuse(format!("no such option: {}", said(&word)));
                 }
                 None => sorted.rest.push(word),
             },
@@ -183,7 +183,7 @@ fn number(word: &OsStr, which: &str) -> Result<u64, Failure> {
     // `parse` would take a plus sign.
     match digits.parse() {
         Ok(number) if digits.bytes().all(|byte| byte.is_ascii_digit()) => Ok(number),
-        _ => misuse(format!("{which} is not a number of bits: {}", name(word))),
+        _ => misuse(format!("{which} is not a number of bits: {}", said(word))),
     }
 }
 

@@ -1,7 +1,7 @@
 //! What is read: a file, or standard input.
 
 use crate::args::Shown;
-use crate::outcome::{name, Failure};
+use crate::outcome::{said, Failure};
 use crate::progress::Progress;
 use std::ffi::OsStr;
 use std::fs::File;
@@ -26,7 +26,7 @@ impl Input {
         let (source, size) = if file == "-" {
             (Source::Standard(io::stdin().lock()), None)
         } else {
-            let source = File::open(file).map_err(|e| Failure::io(name(file), &e))?;
+            let source = File::open(file).map_err(|e| Failure::io(said(file), &e))?;
             let size = size(&source);
             (Source::File(source), size)
         };
@@ -79,6 +79,6 @@ fn size(file: &File) -> Option<u64> {
 pub fn spoken(file: &OsStr) -> String {
     match file.to_str() {
         Some("-") => "standard input".to_string(),
-        _ => name(file),
+        _ => said(file),
     }
 }

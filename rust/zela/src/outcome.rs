@@ -1,5 +1,6 @@
 //! How a run ends: the exit status, and what is said on standard error.
 
+use crate::report::printable;
 use std::ffi::OsStr;
 use std::fmt::Display;
 use std::io::{self, ErrorKind, Write};
@@ -68,7 +69,12 @@ pub fn print(text: &str) -> Result<(), Failure> {
         .map_err(|e| Failure::io("standard output", &e))
 }
 
-/// A file's name for people and reports; what is not UTF-8 in it is replaced.
+/// A file's name for reports; what is not UTF-8 in it is replaced.
 pub fn name(file: &OsStr) -> String {
     file.to_string_lossy().into_owned()
+}
+
+/// A word of the command line in a message.
+pub fn said(word: &OsStr) -> String {
+    printable(&name(word))
 }

@@ -1,6 +1,6 @@
 //! What is written: a file that takes its place at once when all is there, or a stream.
 
-use crate::outcome::{name, Failure};
+use crate::outcome::{said, Failure};
 use std::ffi::OsStr;
 use std::fs::{self, File, OpenOptions, Permissions};
 use std::io::{self, BufWriter, ErrorKind, Stdout, Write};
@@ -37,9 +37,9 @@ impl Output {
     pub fn begin(to: &OsStr) -> Result<Output, Failure> {
         if to == "-" {
             let sink = Sink::Standard(io::stdout());
-            return Ok(Output::over(sink, None, "standard output".to_string()));
+            return Ok(Output::over(sink, None, spoken(to)));
         }
-        open(to).map_err(|e| Failure::io(name(to), &e))
+        open(to).map_err(|e| Failure::io(spoken(to), &e))
     }
 
     fn over(sink: Sink, draft: Option<Draft>, name: String) -> Output {
@@ -80,7 +80,7 @@ fn open(to: &OsStr) -> io::Result<Output> {
         // A pipe or a device has no old content to keep, and a folder can't be opened so.
         Ok(_) => {
             let file = OpenOptions::new().write(true).open(to)?;
-            Ok(Output::over(Sink::File(file), None, name(to)))
+            Ok(Output::over(Sink::File(file), None, spoken(to)))
         }
     }
 }
@@ -93,8 +93,16 @@ fn draft(place: &Path, permissions: Option<Permissions>) -> io::Result<Output> {
     if let Some(permissions) = permissions {
         file.set_permissions(permissions)?;
     }
-    let name = name(draft.place.as_os_str());
+    let name = spoken(draft.place.as_os_str());
     Ok(Output::over(Sink::File(file), Some(draft), name))
+}
+
+/// An output's name in a message.
+pub fn spoken(file: &OsStr) -> String {
+    match file.to_str() {
+        Some("-") => "standard output".to_string(),
+        _ => said(file),
+    }
 }
 
 impl Write for Sink {

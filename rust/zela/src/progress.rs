@@ -9,6 +9,8 @@ const PATIENCE: Duration = Duration::from_millis(500);
 const PACE: Duration = Duration::from_millis(100);
 /// Signs of a full bar.
 const FULL: u64 = 30;
+/// Signs of a name that are shown.
+const NAME: usize = 30;
 
 pub struct Progress {
     name: String,
@@ -18,7 +20,8 @@ pub struct Progress {
 }
 
 impl Progress {
-    /// The bar of a file that is now begun; none where standard error is no terminal.
+    /// The bar of a file that is now begun, by its name in messages; none where standard error is no
+    /// terminal.
     pub fn of_terminal(name: String, size: Option<u64>) -> Option<Progress> {
         io::stderr().is_terminal().then(|| Progress {
             name,
@@ -56,8 +59,7 @@ fn put(text: &str) {
 }
 
 fn line(name: &str, read: u64, size: Option<u64>) -> String {
-    let name: String = name.chars().filter(|sign| !sign.is_control()).collect();
-    let name: String = name.chars().take(30).collect();
+    let name: String = name.chars().take(NAME).collect();
     let Some(size) = size else {
         return format!("{name}  {}", megabytes(read));
     };
@@ -98,8 +100,7 @@ mod tests {
 
     #[test]
     fn a_name_keeps_to_its_line() {
-        let name = format!("a\n{}", "b".repeat(99));
-        let told = format!("a{}  0 MB", "b".repeat(29));
-        assert_eq!(line(&name, 0, None), told);
+        let told = format!("{}  0 MB", "b".repeat(NAME));
+        assert_eq!(line(&"b".repeat(99), 0, None), told);
     }
 }

@@ -4,8 +4,8 @@ use crate::args::Shown;
 use crate::core;
 use crate::frames::{Frame, Frames, Item};
 use crate::input::{spoken, Input};
-use crate::outcome::{name, print, say, Failure, Outcome};
-use crate::output::Output;
+use crate::outcome::{name, print, said, say, Failure, Outcome};
+use crate::output::{self, Output};
 use crate::report::{report, Side, Told, Value};
 use crate::same::are_same;
 use crate::trouble::{bad_values, Bad, Place, Trouble, BAD_KEYS};
@@ -15,7 +15,8 @@ use std::fs;
 /// Repairs one file into another.
 pub fn run(from: &OsStr, to: &OsStr, shown: Shown) -> Result<Outcome, Failure> {
     if are_same(from, to) {
-        let words = format!("{}: IN and OUT are the same file; use --in-place", name(to));
+        let to = output::spoken(to);
+        let words = format!("{to}: IN and OUT are the same file; use --in-place");
         return Err(Failure::new(Outcome::Usage, words));
     }
     let input = Input::open(from)?.with_progress(from, shown);
@@ -32,9 +33,9 @@ pub fn run(from: &OsStr, to: &OsStr, shown: Shown) -> Result<Outcome, Failure> {
 /// Repairs a file itself. Nothing of it may be lost, so that it is replaced only where all of it is
 /// repaired; and only where there was something to repair.
 pub fn run_in_place(file: &OsStr, shown: Shown) -> Result<Outcome, Failure> {
-    let known = fs::metadata(file).map_err(|e| Failure::io(name(file), &e))?;
+    let known = fs::metadata(file).map_err(|e| Failure::io(said(file), &e))?;
     if !known.is_file() {
-        let words = format!("{}: is not a plain file", name(file));
+        let words = format!("{}: is not a plain file", said(file));
         return Err(Failure::new(Outcome::Io, words));
     }
     let input = Input::open(file)?.with_progress(file, shown);

@@ -70,7 +70,7 @@ fn text<T: Told>(things: &[T]) -> String {
         .collect();
     let rows: Vec<Vec<String>> = things
         .iter()
-        .map(|thing| printable(thing.cells()))
+        .map(|thing| thing.cells().iter().map(|cell| printable(cell)).collect())
         .collect();
     let width = |at: usize| {
         let cells = rows.iter().chain([&titles]).filter_map(|row| row.get(at));
@@ -90,10 +90,9 @@ fn text<T: Told>(things: &[T]) -> String {
     text
 }
 
-/// Cells that keep to their line.
-fn printable(cells: Vec<String>) -> Vec<String> {
-    let shown = |cell: String| cell.replace(char::is_control, "?");
-    cells.into_iter().map(shown).collect()
+/// A text that keeps to its line, and moves nothing on a terminal.
+pub fn printable(text: &str) -> String {
+    text.replace(char::is_control, "?")
 }
 
 fn line<T: Told>(cells: &[String], widths: &[usize]) -> String {
@@ -187,6 +186,6 @@ mod tests {
 
     #[test]
     fn a_table_shows_no_control_sign() {
-        assert_eq!(printable(vec!["a\n\u{1b}b".to_string()]), ["a??b"]);
+        assert_eq!(printable("a\n\u{1b}b"), "a??b");
     }
 }

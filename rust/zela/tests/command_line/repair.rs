@@ -159,11 +159,11 @@ fn standard_streams_are_not_in_place_either() {
     symlink("a.ac3", room.path("soft")).unwrap();
     for file in ["a.ac3", "hard", "soft"] {
         is_refused(&room, "-", file, file);
-        is_refused(&room, file, "-", "-");
+        is_refused(&room, file, "-", "standard output");
     }
     is_refused(&room, "hard", "soft", "soft");
     is_refused(&room, "/dev/stdin", "a.ac3", "a.ac3");
-    is_refused(&room, "-", "-", "-");
+    is_refused(&room, "-", "-", "standard output");
     assert_eq!(room.list(), ["a.ac3", "hard", "soft"]);
 }
 

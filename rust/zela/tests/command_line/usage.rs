@@ -65,6 +65,26 @@ fn misuse_of_repair_and_bits_has_status_2_too() {
 }
 
 #[test]
+fn messages_keep_to_their_line() {
+    let room = Room::of("messages");
+    let wild = "\u{1b}[31m\nzela: all good";
+    let said = "?[31m?zela: all good";
+    let none = format!("zela: {said}: No such file or directory (os error 2)\n");
+    room.writes(&["check", wild], 3, "", &none);
+    room.writes(&["bits", wild, "0", "1"], 3, "", &none);
+    room.writes(&["repair", wild, "out"], 3, "", &none);
+    room.writes(&["repair", "-i", wild], 3, "", &none);
+    room.put(wild, &ac3());
+    let same = format!("zela: {said}: IN and OUT are the same file; use --in-place\n");
+    room.writes(&["repair", wild, wild], 2, "", &same);
+    let far = format!("zela: {said}: bit 0, width 33: refusal 6, bad argument\n");
+    room.writes(&["bits", wild, "0", "33"], 1, "", &far);
+    misuses(&[wild], &format!("no such command: {said}"));
+    let option = format!("--{wild}");
+    misuses(&["check", &option], &format!("no such option: --{said}"));
+}
+
+#[test]
 fn the_version_is_the_crates() {
     let room = Room::of("the_version");
     let version = format!("zela {}\n", env!("CARGO_PKG_VERSION"));
