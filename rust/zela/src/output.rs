@@ -1,6 +1,7 @@
 //! What is written: a file that takes its place at once when all is there, or a stream.
 
 use crate::outcome::{said, Failure};
+use crate::same::is_standard_output;
 use std::ffi::OsStr;
 use std::fs::{self, File, OpenOptions, Permissions};
 use std::io::{self, BufWriter, ErrorKind, Stdout, Write};
@@ -33,13 +34,24 @@ impl Drop for Draft {
 }
 
 impl Output {
-    /// Begins to write a file, or standard output for `-`.
+    /// Begins to write a file or a stream. Standard output is `-`, and any other name that leads to it: were
+    /// its file replaced, all else that is written to it would be lost.
     pub fn begin(to: &OsStr) -> Result<Output, Failure> {
-        if to == "-" {
+        if is_standard_output(to) {
             let sink = Sink::Standard(io::stdout());
             return Ok(Output::over(sink, None, spoken(to)));
         }
         open(to).map_err(|e| Failure::io(spoken(to), &e))
+    }
+
+    /// Begins to replace a plain file.
+    pub fn replace(file: &OsStr) -> Result<Output, Failure> {
+        replace(file).map_err(|e| Failure::io(said(file), &e))
+    }
+
+    /// Whether what is written can't be taken back, and is read by others as it comes.
+    pub fn is_stream(&self) -> bool {
+        self.draft.is_none()
     }
 
     fn over(sink: Sink, draft: Option<Draft>, name: String) -> Output {
@@ -73,8 +85,7 @@ impl Output {
 
 fn open(to: &OsStr) -> io::Result<Output> {
     match fs::metadata(to) {
-        // The file that a link leads to is replaced, and not the link.
-        Ok(old) if old.is_file() => draft(&fs::canonicalize(to)?, Some(old.permissions())),
+        Ok(old) if old.is_file() => replace(to),
         Err(e) if e.kind() == ErrorKind::NotFound => draft(Path::new(to), None),
         Err(e) => Err(e),
         // A pipe or a device has no old content to keep, and a folder can't be opened so.
@@ -83,6 +94,13 @@ fn open(to: &OsStr) -> io::Result<Output> {
             Ok(Output::over(Sink::File(file), None, spoken(to)))
         }
     }
+}
+
+/// The file that a link leads to is replaced, and not the link.
+fn replace(file: &OsStr) -> io::Result<Output> {
+    let place = fs::canonicalize(file)?;
+    let old = fs::metadata(&place)?;
+    draft(&place, Some(old.permissions()))
 }
 
 fn draft(place: &Path, permissions: Option<Permissions>) -> io::Result<Output> {

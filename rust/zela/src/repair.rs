@@ -21,13 +21,14 @@ pub fn run(from: &OsStr, to: &OsStr, shown: Shown) -> Result<Outcome, Failure> {
     }
     let input = Input::open(from)?.with_progress(from, shown);
     let mut output = Output::begin(to)?;
+    let is_stream = output.is_stream();
     let mut done = rewrite(from, input, &mut output)?;
     if done.frames > 0 {
         output.finish()?;
         done.written = true;
     }
     done.out = name(to);
-    done.tell(shown)
+    done.tell(shown, is_stream)
 }
 
 /// Repairs a file itself. Nothing of it may be lost, so that it is replaced only where all of it is
@@ -39,14 +40,14 @@ pub fn run_in_place(file: &OsStr, shown: Shown) -> Result<Outcome, Failure> {
         return Err(Failure::new(Outcome::Io, words));
     }
     let input = Input::open(file)?.with_progress(file, shown);
-    let mut output = Output::begin(file)?;
+    let mut output = Output::replace(file)?;
     let mut done = rewrite(file, input, &mut output)?;
     if done.repaired > 0 && done.bad.is_none() {
         output.finish()?;
         done.written = true;
     }
     done.out = name(file);
-    done.tell(shown)
+    done.tell(shown, false)
 }
 
 fn rewrite(from: &OsStr, input: Input, output: &mut Output) -> Result<Done, Failure> {
@@ -126,15 +127,14 @@ impl Done {
         self.bad.get_or_insert(Bad { place, trouble });
     }
 
-    /// Where the frames go to standard output, the report goes to standard error.
-    fn tell(self, shown: Shown) -> Result<Outcome, Failure> {
+    /// Where the frames go to a stream, the report goes to standard error, so that it never is in it.
+    fn tell(self, shown: Shown, is_stream: bool) -> Result<Outcome, Failure> {
         let outcome = match self.bad {
             None => Outcome::Good,
             Some(_) => Outcome::Damage,
         };
-        let is_streamed = self.out == "-";
         let text = report(&[self], shown.format);
-        match (shown.quiet, is_streamed) {
+        match (shown.quiet, is_stream) {
             (true, _) => {}
             (false, true) => say(text.trim_end()),
             (false, false) => print(&text)?,

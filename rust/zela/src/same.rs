@@ -1,4 +1,4 @@
-//! Whether an input and an output are one file.
+//! Whether two names lead to one file.
 
 use std::ffi::OsStr;
 use std::fs::{self, File, Metadata};
@@ -11,6 +11,15 @@ pub fn are_same(from: &OsStr, to: &OsStr) -> bool {
     match (known(from, io::stdin()), known(to, io::stdout())) {
         (Ok(from), Ok(to)) => place(&from) == place(&to) && gives_back(&from),
         _ => false,
+    }
+}
+
+/// Whether what is written to `to` goes where standard output goes.
+pub fn is_standard_output(to: &OsStr) -> bool {
+    let standard = known(OsStr::new("-"), io::stdout());
+    match (known(to, io::stdout()), standard) {
+        (Ok(to), Ok(standard)) => place(&to) == place(&standard),
+        _ => to == "-",
     }
 }
 

@@ -4,6 +4,7 @@ use crate::room::{ac3, eac3, noise, wrong, Ran, Room};
 use std::fs::{self, File, OpenOptions};
 use std::os::unix::fs::{symlink, FileTypeExt, MetadataExt, PermissionsExt};
 use std::process::{Command, Stdio};
+use std::thread;
 
 /// Repairs `in` to `out`, and gives what `out` holds.
 #[track_caller]
@@ -282,6 +283,50 @@ file  out  frames  repaired  left out  result
 ";
     assert_eq!(String::from_utf8(ran.stderr).unwrap(), table);
     assert_eq!(ran.status.code(), Some(0));
+}
+
+/// The report of 13 good frames that go to `out`.
+fn copied(out: &str) -> String {
+    let wide = out.len().max(3);
+    format!(
+        "\
+file  {:wide$}  frames  repaired  left out  result
+in    {out:wide$}      13         0         0  written
+",
+        "out"
+    )
+}
+
+#[test]
+fn a_report_is_never_in_a_stream() {
+    let room = Room::of("never_in_a_stream");
+    room.put("in", &ac3());
+    let ran = room.command(&["repair", "in", "/dev/stdout"]).output();
+    let ran = ran.unwrap();
+    assert_eq!(ran.stdout, ac3());
+    assert_eq!(String::from_utf8(ran.stderr), Ok(copied("/dev/stdout")));
+    let null = copied("/dev/null");
+    room.writes(&["repair", "in", "/dev/null"], 0, "", &null);
+    let pipe = room.pipe("pipe");
+    let reader = thread::spawn(|| fs::read(pipe).unwrap());
+    room.writes(&["repair", "in", "pipe"], 0, "", &copied("pipe"));
+    assert_eq!(reader.join().unwrap(), ac3());
+    assert_eq!(room.list(), ["in", "pipe"]);
+}
+
+#[test]
+fn the_file_of_standard_output_is_written_through_it() {
+    let room = Room::of("file_of_standard_output");
+    room.put("in", &ac3());
+    for out in ["-", "/dev/stdout", "out"] {
+        room.put("out", b"old");
+        let appended = OpenOptions::new().append(true).open(room.path("out"));
+        let mut command = room.command(&["repair", "in", out]);
+        let ran = command.stdout(appended.unwrap()).output().unwrap();
+        Ran::of(ran).is(0, "", &copied(out));
+        assert_eq!(room.get("out"), [b"old", &ac3()[..]].concat());
+    }
+    assert_eq!(room.list(), ["in", "out"]);
 }
 
 #[test]

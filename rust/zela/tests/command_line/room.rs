@@ -44,6 +44,13 @@ impl Room {
         fs::read(self.path(file)).unwrap()
     }
 
+    /// A pipe with a name.
+    pub fn pipe(&self, name: &str) -> PathBuf {
+        let made = Command::new("mkfifo").arg(self.path(name)).status();
+        assert!(made.unwrap().success());
+        self.path(name)
+    }
+
     /// The names of what is in the folder, hidden files too.
     pub fn list(&self) -> Vec<String> {
         let entries = fs::read_dir(&self.0).unwrap();
