@@ -8,6 +8,10 @@ use std::io::{self, BufWriter, ErrorKind, Stdout, Write};
 use std::path::{Path, PathBuf};
 use std::process;
 
+/// How many names are tried for a draft. One that a killed run left may have the first, since in a container
+/// the next run often has the same process number.
+const NAMES: u32 = 100;
+
 /// An output that is begun. Where it is never finished, an old file is still as it was.
 pub struct Output {
     writer: BufWriter<Sink>,
@@ -104,8 +108,7 @@ fn replace(file: &OsStr) -> io::Result<Output> {
 }
 
 fn draft(place: &Path, permissions: Option<Permissions>) -> io::Result<Output> {
-    let at = place.with_file_name(format!(".zela-{}.tmp", process::id()));
-    let file = OpenOptions::new().write(true).create_new(true).open(&at)?;
+    let (at, file) = beside(place)?;
     let place = place.to_path_buf();
     let draft = Draft { at, place };
     if let Some(permissions) = permissions {
@@ -113,6 +116,20 @@ fn draft(place: &Path, permissions: Option<Permissions>) -> io::Result<Output> {
     }
     let name = spoken(draft.place.as_os_str());
     Ok(Output::over(Sink::File(file), Some(draft), name))
+}
+
+/// A new file beside the place, under a name that nothing has.
+fn beside(place: &Path) -> io::Result<(PathBuf, File)> {
+    for number in 0..NAMES {
+        let name = format!(".zela-{}-{number}.tmp", process::id());
+        let at = place.with_file_name(name);
+        match OpenOptions::new().write(true).create_new(true).open(&at) {
+            Err(e) if e.kind() == ErrorKind::AlreadyExists => {}
+            file => return Ok((at, file?)),
+        }
+    }
+    let words = "the names of drafts beside it are all taken";
+    Err(io::Error::new(ErrorKind::AlreadyExists, words))
 }
 
 /// An output's name in a message.

@@ -251,6 +251,37 @@ fn a_write_that_fails_leaves_the_old_file() {
     assert_eq!(room.list(), ["in", "out"]);
 }
 
+/// Repairs `in` to `out` by a run that finds its first drafts' names taken, so many of them.
+fn run_beside_drafts(room: &Room, taken: u32) -> Ran {
+    let shell = "n=0; while [ $n -lt $1 ]; do echo left > .zela-$$-$n.tmp; n=$((n+1)); done
+        exec \"$0\" repair in out";
+    let mut command = Command::new("sh");
+    command.args(["-c", shell, env!("CARGO_BIN_EXE_zela")]);
+    command.arg(taken.to_string());
+    Ran::of(command.current_dir(room.path("")).output().unwrap())
+}
+
+#[test]
+fn a_draft_that_was_left_is_in_nobodys_way() {
+    let room = Room::of("a_draft_that_was_left");
+    room.put("in", &ac3());
+    run_beside_drafts(&room, 2).is(0, &copied("out"), "");
+    assert_eq!(room.get("out"), ac3());
+    let left = room.list();
+    assert_eq!(left.len(), 4);
+    assert_eq!(room.get(&left[0]), b"left\n");
+    assert_eq!(room.get(&left[1]), b"left\n");
+}
+
+#[test]
+fn a_name_for_a_draft_is_not_sought_for_ever() {
+    let room = Room::of("not_sought_for_ever");
+    room.put("in", &ac3());
+    let err = "zela: out: the names of drafts beside it are all taken\n";
+    run_beside_drafts(&room, 100).is(3, "", err);
+    assert_eq!(room.list().len(), 101);
+}
+
 #[test]
 fn an_output_that_cannot_be() {
     let room = Room::of("cannot_be");
