@@ -11,6 +11,8 @@ use std::process;
 /// How many names are tried for a draft. One that a killed run left may have the first, since in a container
 /// the next run often has the same process number.
 const NAMES: u32 = 100;
+/// How many links are followed, as many as Linux does.
+const LINKS: u32 = 40;
 
 /// An output that is begun. Where it is never finished, an old file is still as it was.
 pub struct Output {
@@ -90,7 +92,7 @@ impl Output {
 fn open(to: &OsStr) -> io::Result<Output> {
     match fs::metadata(to) {
         Ok(old) if old.is_file() => replace(to),
-        Err(e) if e.kind() == ErrorKind::NotFound => draft(Path::new(to), None),
+        Err(e) if e.kind() == ErrorKind::NotFound => draft(to, led_to(to), None),
         Err(e) => Err(e),
         // A pipe or a device has no old content to keep, and a folder can't be opened so.
         Ok(_) => {
@@ -104,18 +106,30 @@ fn open(to: &OsStr) -> io::Result<Output> {
 fn replace(file: &OsStr) -> io::Result<Output> {
     let place = fs::canonicalize(file)?;
     let old = fs::metadata(&place)?;
-    draft(&place, Some(old.permissions()))
+    draft(file, place, Some(old.permissions()))
 }
 
-fn draft(place: &Path, permissions: Option<Permissions>) -> io::Result<Output> {
-    let (at, file) = beside(place)?;
-    let place = place.to_path_buf();
+/// Where a file that is not there yet is to be: past all links, so that they stay.
+fn led_to(file: &OsStr) -> PathBuf {
+    let mut place = PathBuf::from(file);
+    for _ in 0..LINKS {
+        let Ok(link) = fs::read_link(&place) else {
+            break;
+        };
+        place.pop();
+        place.push(link);
+    }
+    place
+}
+
+/// Begins a file that will take the place. Messages name it as it was named.
+fn draft(to: &OsStr, place: PathBuf, permissions: Option<Permissions>) -> io::Result<Output> {
+    let (at, file) = beside(&place)?;
     let draft = Draft { at, place };
     if let Some(permissions) = permissions {
         file.set_permissions(permissions)?;
     }
-    let name = spoken(draft.place.as_os_str());
-    Ok(Output::over(Sink::File(file), Some(draft), name))
+    Ok(Output::over(Sink::File(file), Some(draft), spoken(to)))
 }
 
 /// A new file beside the place, under a name that nothing has.

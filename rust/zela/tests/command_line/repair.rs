@@ -241,12 +241,7 @@ fn a_write_that_fails_leaves_the_old_file() {
     let mut command = Command::new("sh");
     command.args(["-c", shell, env!("CARGO_BIN_EXE_zela")]);
     let ran = Ran::of(command.current_dir(room.path("")).output().unwrap());
-    assert_eq!((ran.status, ran.out.as_str()), (3, ""));
-    assert!(
-        ran.err.ends_with("out: File too large (os error 27)\n"),
-        "{}",
-        ran.err
-    );
+    ran.is(3, "", "zela: out: File too large (os error 27)\n");
     assert_eq!(room.get("out"), b"old");
     assert_eq!(room.list(), ["in", "out"]);
 }
@@ -372,6 +367,39 @@ fn a_link_and_the_mode_stay() {
     let known = |file| fs::symlink_metadata(room.path(file)).unwrap();
     assert!(known("out").is_symlink());
     assert_eq!(known("real").permissions().mode() & 0o777, 0o640);
+}
+
+#[test]
+fn a_link_that_leads_nowhere_yet_stays() {
+    let room = Room::of("leads_nowhere_yet");
+    room.put("in", &ac3());
+    fs::create_dir_all(room.path("folder/inner")).unwrap();
+    symlink("folder/next", room.path("out")).unwrap();
+    symlink("inner/real", room.path("folder/next")).unwrap();
+    room.writes(&["repair", "in", "out"], 0, &copied("out"), "");
+    assert_eq!(room.get("folder/inner/real"), ac3());
+    symlink(room.path("far"), room.path("folder/out")).unwrap();
+    let table = copied("folder/out");
+    room.writes(&["repair", "in", "folder/out"], 0, &table, "");
+    assert_eq!(room.get("far"), ac3());
+    for link in ["out", "folder/next", "folder/out"] {
+        let known = fs::symlink_metadata(room.path(link)).unwrap();
+        assert!(known.is_symlink(), "{link}");
+    }
+    assert_eq!(room.list(), ["far", "folder", "in", "out"]);
+}
+
+#[test]
+fn a_link_that_leads_nowhere_at_all() {
+    let room = Room::of("nowhere_at_all");
+    room.put("in", &ac3());
+    symlink("none/real", room.path("out")).unwrap();
+    let none = "zela: out: No such file or directory (os error 2)\n";
+    room.writes(&["repair", "in", "out"], 3, "", none);
+    symlink("ring", room.path("ring")).unwrap();
+    let ring = "zela: ring: Too many levels of symbolic links (os error 40)\n";
+    room.writes(&["repair", "in", "ring"], 3, "", ring);
+    assert_eq!(room.list(), ["in", "out", "ring"]);
 }
 
 #[test]
