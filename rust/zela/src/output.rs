@@ -5,6 +5,7 @@ use crate::same::is_standard_output;
 use std::ffi::OsStr;
 use std::fs::{self, File, OpenOptions, Permissions};
 use std::io::{self, BufWriter, ErrorKind, Stdout, Write};
+use std::os::unix::fs::OpenOptionsExt;
 use std::path::{Path, PathBuf};
 use std::process;
 
@@ -124,7 +125,7 @@ fn led_to(file: &OsStr) -> PathBuf {
 
 /// Begins a file that will take the place. Messages name it as it was named.
 fn draft(to: &OsStr, place: PathBuf, permissions: Option<Permissions>) -> io::Result<Output> {
-    let (at, file) = beside(&place)?;
+    let (at, file) = beside(&place, &options(permissions.is_some()))?;
     let draft = Draft { at, place };
     if let Some(permissions) = permissions {
         file.set_permissions(permissions)?;
@@ -132,12 +133,23 @@ fn draft(to: &OsStr, place: PathBuf, permissions: Option<Permissions>) -> io::Re
     Ok(Output::over(Sink::File(file), Some(draft), spoken(to)))
 }
 
+/// How a draft is made. Before it has the rights of the file that it replaces, nobody else has any: that file
+/// may have been closed to them.
+fn options(replaces: bool) -> OpenOptions {
+    let mut options = OpenOptions::new();
+    options.write(true).create_new(true);
+    if replaces {
+        options.mode(0o600);
+    }
+    options
+}
+
 /// A new file beside the place, under a name that nothing has.
-fn beside(place: &Path) -> io::Result<(PathBuf, File)> {
+fn beside(place: &Path, options: &OpenOptions) -> io::Result<(PathBuf, File)> {
     for number in 0..NAMES {
         let name = format!(".zela-{}-{number}.tmp", process::id());
         let at = place.with_file_name(name);
-        match OpenOptions::new().write(true).create_new(true).open(&at) {
+        match options.open(&at) {
             Err(e) if e.kind() == ErrorKind::AlreadyExists => {}
             file => return Ok((at, file?)),
         }
@@ -167,5 +179,21 @@ impl Write for Sink {
             Sink::File(file) => file.flush(),
             Sink::Standard(out) => out.flush(),
         }
+    }
+}
+
+#[cfg(test)]
+mod tests {
+    use super::*;
+    use std::env;
+    use std::os::unix::fs::PermissionsExt;
+
+    #[test]
+    fn a_draft_that_replaces_a_file_is_closed_to_others_at_once() {
+        let place = env::temp_dir().join("zela-output-test");
+        let (at, file) = beside(&place, &options(true)).unwrap();
+        let mode = file.metadata().unwrap().permissions().mode();
+        fs::remove_file(at).unwrap();
+        assert_eq!(mode & 0o777, 0o600);
     }
 }
