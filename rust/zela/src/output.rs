@@ -31,12 +31,23 @@ enum Sink {
 struct Draft {
     at: PathBuf,
     place: PathBuf,
+    is_placed: bool,
 }
 
-/// A draft that has taken its place is no longer there to be removed.
+impl Draft {
+    fn take_place(&mut self) -> io::Result<()> {
+        fs::rename(&self.at, &self.place)?;
+        self.is_placed = true;
+        Ok(())
+    }
+}
+
+/// Once a draft has taken its place, its old name may be that of another run's.
 impl Drop for Draft {
     fn drop(&mut self) {
-        let _ = fs::remove_file(&self.at);
+        if !self.is_placed {
+            let _ = fs::remove_file(&self.at);
+        }
     }
 }
 
@@ -82,11 +93,11 @@ impl Output {
 
     fn settle(&mut self) -> io::Result<()> {
         self.writer.flush()?;
-        let (Sink::File(file), Some(draft)) = (self.writer.get_ref(), &self.draft) else {
+        let (Sink::File(file), Some(draft)) = (self.writer.get_ref(), &mut self.draft) else {
             return Ok(());
         };
         file.sync_all()?;
-        fs::rename(&draft.at, &draft.place)
+        draft.take_place()
     }
 }
 
@@ -126,7 +137,11 @@ fn led_to(file: &OsStr) -> PathBuf {
 /// Begins a file that will take the place. Messages name it as it was named.
 fn draft(to: &OsStr, place: PathBuf, permissions: Option<Permissions>) -> io::Result<Output> {
     let (at, file) = beside(&place, &options(permissions.is_some()))?;
-    let draft = Draft { at, place };
+    let draft = Draft {
+        at,
+        place,
+        is_placed: false,
+    };
     if let Some(permissions) = permissions {
         file.set_permissions(permissions)?;
     }
