@@ -22,7 +22,7 @@ pub fn run(from: &OsStr, to: &OsStr, shown: Shown) -> Result<Outcome, Failure> {
     let input = Input::open(from)?.with_progress(from, shown);
     let mut output = Output::begin(to)?;
     let is_stream = output.is_stream();
-    let mut done = rewrite(from, input, &mut output)?;
+    let mut done = rewrite(from, input, |frame| output.write(frame))?;
     if done.frames > 0 {
         output.finish()?;
         done.written = true;
@@ -32,31 +32,41 @@ pub fn run(from: &OsStr, to: &OsStr, shown: Shown) -> Result<Outcome, Failure> {
 }
 
 /// Repairs a file itself. Nothing of it may be lost, so that it is replaced only where all of it is
-/// repaired; and only where there was something to repair.
+/// repaired; and only where there was something to repair. To know that it is read before anything is begun,
+/// so that a good file may stand where nothing can be written.
 pub fn run_in_place(file: &OsStr, shown: Shown) -> Result<Outcome, Failure> {
     let known = fs::metadata(file).map_err(|e| Failure::io(said(file), &e))?;
     if !known.is_file() {
         let words = format!("{}: is not a plain file", said(file));
         return Err(Failure::new(Outcome::Io, words));
     }
-    let input = Input::open(file)?.with_progress(file, shown);
-    let mut output = Output::replace(file)?;
-    let mut done = rewrite(file, input, &mut output)?;
-    if done.repaired > 0 && done.bad.is_none() {
-        output.finish()?;
-        done.written = true;
+    let input = || Ok(Input::open(file)?.with_progress(file, shown));
+    let mut done = rewrite(file, input()?, |_| Ok(()))?;
+    if done.is_all_repaired() {
+        let mut output = Output::replace(file)?;
+        done = rewrite(file, input()?, |frame| output.write(frame))?;
+        // It may have changed since it was read first.
+        if done.is_all_repaired() {
+            output.finish()?;
+            done.written = true;
+        }
     }
     done.out = name(file);
     done.tell(shown, false)
 }
 
-fn rewrite(from: &OsStr, input: Input, output: &mut Output) -> Result<Done, Failure> {
+/// Hands on each whole frame, with good checksums.
+fn rewrite(
+    from: &OsStr,
+    input: Input,
+    mut to: impl FnMut(&[u8]) -> Result<(), Failure>,
+) -> Result<Done, Failure> {
     let mut frames = Frames::new(input);
     let mut done = Done::of(name(from));
     let failed = |e| Failure::io(spoken(from), &e);
     while let Some((place, item)) = frames.next().map_err(failed)? {
         match item {
-            Item::Frame(frame) => done.put(place, &frame, output)?,
+            Item::Frame(frame) => done.put(place, &frame, &mut to)?,
             Item::Gap(gap) => done.leave_out(place, gap.bytes, gap.trouble),
         }
     }
@@ -104,16 +114,21 @@ impl Done {
     }
 
     /// Writes a frame with good checksums, or leaves it out.
-    fn put(&mut self, place: Place, frame: &Frame<'_>, output: &mut Output) -> Result<(), Failure> {
+    fn put(
+        &mut self,
+        place: Place,
+        frame: &Frame<'_>,
+        mut to: impl FnMut(&[u8]) -> Result<(), Failure>,
+    ) -> Result<(), Failure> {
         if frame.status.is_good() {
             self.frames += 1;
-            return output.write(frame.bytes);
+            return to(frame.bytes);
         }
         match repaired(frame) {
             Ok(bytes) => {
                 self.frames += 1;
                 self.repaired += 1;
-                output.write(&bytes)
+                to(&bytes)
             }
             Err(trouble) => {
                 self.leave_out(place, frame.bytes.len() as u64, trouble);
@@ -125,6 +140,11 @@ impl Done {
     fn leave_out(&mut self, place: Place, bytes: u64, trouble: Trouble) {
         self.left_out += bytes;
         self.bad.get_or_insert(Bad { place, trouble });
+    }
+
+    /// Whether there was something to repair, and all of it is.
+    fn is_all_repaired(&self) -> bool {
+        self.repaired > 0 && self.bad.is_none()
     }
 
     /// Where the frames go to a stream, the report goes to standard error, so that it never is in it.

@@ -5,6 +5,7 @@ use std::fs::{self, File, OpenOptions};
 use std::os::unix::fs::{symlink, FileTypeExt, MetadataExt, PermissionsExt};
 use std::process::{Command, Stdio};
 use std::thread;
+use std::time::SystemTime;
 
 /// Repairs `in` to `out`, and gives what `out` holds.
 #[track_caller]
@@ -190,6 +191,55 @@ a.ac3  a.ac3      13         0         0  nothing to repair
     assert_eq!(before.ino(), after.ino());
     assert_eq!(before.modified().unwrap(), after.modified().unwrap());
     assert_eq!(room.list(), ["a.ac3"]);
+}
+
+/// Repairs `folder/a.ac3` itself, where the folder is closed to all but the system's administrator. What it
+/// holds must not change for a moment, which the folder's time would tell.
+#[track_caller]
+fn touches_no_folder(room: &Room, status: i32, table: &str) {
+    let folder = File::open(room.path("folder")).unwrap();
+    let mode = |mode| folder.set_permissions(fs::Permissions::from_mode(mode));
+    folder.set_modified(SystemTime::UNIX_EPOCH).unwrap();
+    mode(0o555).unwrap();
+    let ran = room.run(&["repair", "-i", "folder/a.ac3"]);
+    mode(0o755).unwrap();
+    ran.is(status, table, "");
+    let known = folder.metadata().unwrap();
+    assert_eq!(known.modified().unwrap(), SystemTime::UNIX_EPOCH);
+}
+
+#[test]
+fn in_place_there_is_no_draft_where_none_is_needed() {
+    let room = Room::of("no_draft");
+    fs::create_dir(room.path("folder")).unwrap();
+    room.put("folder/a.ac3", &ac3());
+    let good = "\
+file          out           frames  repaired  left out  result
+folder/a.ac3  folder/a.ac3      13         0         0  nothing to repair
+";
+    touches_no_folder(&room, 0, good);
+    room.put("folder/a.ac3", &wrong(ac3(), 300, 1)[..1000]);
+    let cut = "\
+file          out           frames  repaired  left out  result
+folder/a.ac3  folder/a.ac3       3         1       232  not written
+    can't be repaired: byte 768, 00:00:00.096: refusal 1, the frame breaks off after 232 of 256 bytes
+";
+    touches_no_folder(&room, 1, cut);
+}
+
+#[test]
+fn in_place_a_read_only_file_is_replaced_and_a_hard_link_keeps_the_old_one() {
+    let room = Room::of("read_only");
+    let old = wrong(ac3(), 254, 1);
+    room.put("a.ac3", &old);
+    fs::hard_link(room.path("a.ac3"), room.path("hard")).unwrap();
+    fs::set_permissions(room.path("a.ac3"), fs::Permissions::from_mode(0o444)).unwrap();
+    room.writes(&["repair", "-q", "-i", "a.ac3"], 0, "", "");
+    assert_eq!(room.get("a.ac3"), ac3());
+    assert_eq!(room.get("hard"), old);
+    let mode = fs::metadata(room.path("a.ac3")).unwrap().permissions();
+    assert_eq!(mode.mode() & 0o777, 0o444);
+    assert_eq!(room.list(), ["a.ac3", "hard"]);
 }
 
 #[test]
