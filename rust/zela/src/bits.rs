@@ -25,7 +25,7 @@ pub fn run(span: &Span, format: Format) -> Result<Outcome, Failure> {
         width: span.width,
         value,
     };
-    print(&report(&[found], format))?;
+    print(&report(&[found], None, format))?;
     Ok(Outcome::Good)
 }
 

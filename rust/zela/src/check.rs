@@ -25,9 +25,24 @@ pub fn run(files: &[OsString], shown: Shown) -> Result<Outcome, Failure> {
         }
     }
     if !shown.quiet {
-        print(&report(&checked, shown.format))?;
+        print(&report(
+            &checked,
+            total(&checked, files.len()),
+            shown.format,
+        ))?;
     }
     Ok(outcome)
+}
+
+/// Of many files, how many are good, damaged, and not read, if there are such.
+fn total(checked: &[Summary], files: usize) -> Option<String> {
+    let good = checked.iter().filter(|file| file.is_good()).count();
+    let damaged = checked.len() - good;
+    let unread = match files - checked.len() {
+        0 => String::new(),
+        unread => format!(", {unread} not read"),
+    };
+    (files > 1).then(|| format!("{files} files: {good} good, {damaged} damaged{unread}"))
 }
 
 fn check(file: &OsStr, shown: Shown) -> Result<Summary, Failure> {
@@ -231,11 +246,5 @@ impl Told for Summary {
 
     fn note(&self) -> Option<String> {
         self.first_bad.map(|bad| format!("first bad place: {bad}"))
-    }
-
-    fn total(all: &[Summary]) -> Option<String> {
-        let (files, good) = (all.len(), all.iter().filter(|file| file.is_good()).count());
-        let damaged = files - good;
-        (files > 1).then(|| format!("{files} files: {good} good, {damaged} damaged"))
     }
 }

@@ -153,7 +153,7 @@ impl Done {
             None => Outcome::Good,
             Some(_) => Outcome::Damage,
         };
-        let text = report(&[self], shown.format);
+        let text = report(&[self], None, shown.format);
         match (shown.quiet, is_stream) {
             (true, _) => {}
             (false, true) => say(text.trim_end()),

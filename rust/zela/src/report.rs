@@ -42,25 +42,18 @@ pub trait Told {
     fn note(&self) -> Option<String> {
         None
     }
-    /// A line below the table.
-    fn total(_all: &[Self]) -> Option<String>
-    where
-        Self: Sized,
-    {
-        None
-    }
 }
 
-/// A report of these things.
-pub fn report<T: Told>(things: &[T], format: Format) -> String {
+/// A report of these things. Where they are many, a table has their total below it.
+pub fn report<T: Told>(things: &[T], total: Option<String>, format: Format) -> String {
     match format {
-        Format::Text => text(things),
+        Format::Text => text(things, total),
         Format::Json => json(things),
         Format::Csv => csv(things),
     }
 }
 
-fn text<T: Told>(things: &[T]) -> String {
+fn text<T: Told>(things: &[T], total: Option<String>) -> String {
     if things.is_empty() {
         return String::new();
     }
@@ -84,7 +77,7 @@ fn text<T: Told>(things: &[T]) -> String {
             text += &format!("    {note}\n");
         }
     }
-    if let Some(total) = T::total(things) {
+    if let Some(total) = total {
         text += &format!("\n{total}\n");
     }
     text

@@ -265,6 +265,8 @@ fn files_that_cannot_be_read() {
     let table = "\
 file   codec  bytes  frames        length   bit rate  crc1  crc2  skipped
 a.ac3  AC-3    3328      13  00:00:00.416  64 kbit/s  good  good        0
+
+3 files: 1 good, 0 damaged, 2 not read
 ";
     let err = "\
 zela: folder: Is a directory (os error 21)
@@ -272,6 +274,25 @@ zela: missing.ac3: No such file or directory (os error 2)
 ";
     room.writes(&words, 3, table, err);
     room.writes(&["check", "missing.ac3"], 3, "", &err[43..]);
+    room.writes(&["check", "folder", "missing.ac3"], 3, "", err);
+}
+
+#[test]
+fn a_file_that_is_not_read_is_counted() {
+    let room = Room::of("not_read");
+    room.put("good.ac3", &ac3());
+    room.put("cut.ac3", &ac3()[..1000]);
+    let words = ["check", "good.ac3", "missing", "cut.ac3"];
+    let table = "\
+file      codec  bytes  frames        length   bit rate  crc1  crc2  skipped
+good.ac3  AC-3    3328      13  00:00:00.416  64 kbit/s  good  good        0
+cut.ac3   AC-3    1000       3  00:00:00.096  64 kbit/s  good  good      232
+    first bad place: byte 768, 00:00:00.096: refusal 1, the frame breaks off after 232 of 256 bytes
+
+3 files: 1 good, 1 damaged, 1 not read
+";
+    let missing = "zela: missing: No such file or directory (os error 2)\n";
+    room.writes(&words, 3, table, missing);
 }
 
 #[test]
