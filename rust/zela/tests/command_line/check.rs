@@ -1,7 +1,8 @@
 //! `zela check`, as a table.
 
-use crate::room::{ac3, eac3, noise, sealed, wrong, Ran, Room, SAMPLES};
-use std::process::Stdio;
+use crate::room::{ac3, eac3, gone, noise, sealed, wrong, Ran, Room, SAMPLES};
+use std::fs;
+use std::thread;
 
 /// Checks one file of these bytes, under the name `x`.
 #[track_caller]
@@ -260,7 +261,7 @@ x     E-AC-3    256       1  00:00:00.000         -  -     good        0
 fn files_that_cannot_be_read() {
     let room = Room::of("files_that_cannot_be_read");
     room.put("a.ac3", &ac3());
-    std::fs::create_dir(room.path("folder")).unwrap();
+    fs::create_dir(room.path("folder")).unwrap();
     let words = ["check", "folder", "a.ac3", "missing.ac3"];
     let table = "\
 file   codec  bytes  frames        length   bit rate  crc1  crc2  skipped
@@ -327,24 +328,44 @@ fn quiet_tells_by_the_status() {
 }
 
 #[test]
+fn a_pipe_with_a_name_is_read_as_a_file() {
+    let room = Room::of("a_pipe_with_a_name");
+    let pipe = room.pipe("pipe");
+    let writer = thread::spawn(move || fs::write(pipe, &ac3()[..700]));
+    let table = "\
+file  codec  bytes  frames        length   bit rate  crc1  crc2  skipped
+pipe  AC-3     700       2  00:00:00.064  64 kbit/s  good  good      188
+    first bad place: byte 512, 00:00:00.064: refusal 1, the frame breaks off after 188 of 256 bytes
+";
+    room.writes(&["check", "pipe"], 1, table, "");
+    writer.join().unwrap().unwrap();
+}
+
+#[test]
 fn a_reader_that_is_gone_is_no_panic() {
     let room = Room::of("a_reader_that_is_gone");
-    let mut command = room.command(&["check", "-"]);
-    command.stdin(Stdio::piped()).stdout(Stdio::piped());
-    let mut child = command.stderr(Stdio::piped()).spawn().unwrap();
-    drop(child.stdout.take());
-    // The table is written when standard input ends, and that is after its reader has gone.
-    drop(child.stdin.take());
-    Ran::of(child.wait_with_output().unwrap()).is(3, "", "");
+    room.put("a.ac3", &ac3());
+    let runs: [&[&str]; 6] = [
+        &["check", "a.ac3"],
+        &["check", "--format", "json", "a.ac3"],
+        &["bits", "a.ac3", "0", "16"],
+        &["repair", "a.ac3", "-"],
+        &["--help"],
+        &["--version"],
+    ];
+    for words in runs {
+        room.run_into(gone(), words).is(3, "", "");
+    }
+    room.run_into(gone(), &["check", "-q", "a.ac3"])
+        .is(0, "", "");
 }
 
 #[test]
 fn a_full_disk_is_told() {
     let room = Room::of("a_full_disk");
     room.put("a.ac3", &ac3());
-    let full = std::fs::OpenOptions::new().write(true).open("/dev/full");
+    let full = fs::OpenOptions::new().write(true).open("/dev/full");
     let Ok(full) = full else { return };
-    let ran = room.command(&["check", "a.ac3"]).stdout(full).output();
     let err = "zela: standard output: No space left on device (os error 28)\n";
-    Ran::of(ran.unwrap()).is(3, "", err);
+    room.run_into(full, &["check", "a.ac3"]).is(3, "", err);
 }

@@ -1,6 +1,6 @@
 //! `zela repair`: what is written, and what stays as it was.
 
-use crate::room::{ac3, eac3, noise, wrong, Ran, Room};
+use crate::room::{ac3, eac3, gone, noise, wrong, Ran, Room};
 use std::fs::{self, File, OpenOptions};
 use std::os::unix::fs::{symlink, FileTypeExt, MetadataExt, PermissionsExt};
 use std::process::{Command, Stdio};
@@ -172,9 +172,8 @@ fn standard_streams_are_not_in_place_either() {
 #[test]
 fn streams_of_one_device_are_no_file() {
     let room = Room::of("one_device");
-    let mut command = room.command(&["repair", "-q", "-", "-"]);
-    command.stdin(Stdio::null()).stdout(Stdio::null());
-    Ran::of(command.output().unwrap()).is(1, "", "");
+    let ran = room.run_into(Stdio::null(), &["repair", "-q", "-", "-"]);
+    ran.is(1, "", "");
 }
 
 #[test]
@@ -264,7 +263,10 @@ fn in_place_there_must_be_a_file() {
     room.writes(&["repair", "-i", "in"], 3, "", missing);
     let folder = "zela: .: is not a plain file\n";
     room.writes(&["repair", "-i", "."], 3, "", folder);
-    assert!(room.list().is_empty());
+    room.pipe("pipe");
+    let pipe = "zela: pipe: is not a plain file\n";
+    room.writes(&["repair", "-i", "pipe"], 3, "", pipe);
+    assert_eq!(room.list(), ["pipe"]);
 }
 
 #[test]
@@ -391,15 +393,45 @@ fn a_report_is_never_in_a_stream() {
 }
 
 #[test]
+fn a_pipe_with_a_name_is_repaired() {
+    let room = Room::of("a_pipe_is_repaired");
+    let pipe = room.pipe("in");
+    let writer = thread::spawn(move || fs::write(pipe, wrong(eac3(), 254, 1)));
+    let table = "\
+file  out  frames  repaired  left out  result
+in    out      13         1         0  written
+";
+    room.writes(&["repair", "in", "out"], 0, table, "");
+    writer.join().unwrap().unwrap();
+    assert_eq!(room.get("out"), eac3());
+}
+
+#[test]
+fn a_report_that_fails_takes_no_file_back() {
+    let room = Room::of("a_report_that_fails");
+    room.put("in", &ac3());
+    room.put("out", b"old");
+    room.run_into(gone(), &["repair", "in", "out"])
+        .is(3, "", "");
+    assert_eq!(room.get("out"), ac3());
+    let full = OpenOptions::new().write(true).open("/dev/full");
+    let Ok(full) = full else { return };
+    room.put("in", &wrong(ac3(), 254, 1));
+    let err = "zela: standard output: No space left on device (os error 28)\n";
+    room.run_into(full, &["repair", "-i", "in"]).is(3, "", err);
+    assert_eq!(room.get("in"), ac3());
+    assert_eq!(room.list(), ["in", "out"]);
+}
+
+#[test]
 fn the_file_of_standard_output_is_written_through_it() {
     let room = Room::of("file_of_standard_output");
     room.put("in", &ac3());
     for out in ["-", "/dev/stdout", "out"] {
         room.put("out", b"old");
         let appended = OpenOptions::new().append(true).open(room.path("out"));
-        let mut command = room.command(&["repair", "in", out]);
-        let ran = command.stdout(appended.unwrap()).output().unwrap();
-        Ran::of(ran).is(0, "", &copied(out));
+        let ran = room.run_into(appended.unwrap(), &["repair", "in", out]);
+        ran.is(0, "", &copied(out));
         assert_eq!(room.get("out"), [b"old", &ac3()[..]].concat());
     }
     assert_eq!(room.list(), ["in", "out"]);

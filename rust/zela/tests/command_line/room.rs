@@ -1,7 +1,7 @@
 //! A folder for the files of one test, the program run in it, and what it wrote.
 
 use std::fs;
-use std::io::Write;
+use std::io::{self, Write};
 use std::path::{Path, PathBuf};
 use std::process::{Command, Output, Stdio};
 use zelamodurk::crc;
@@ -82,6 +82,13 @@ impl Room {
         Ran::of(child.wait_with_output().unwrap())
     }
 
+    /// Runs it with this as standard output.
+    pub fn run_into(&self, out: impl Into<Stdio>, words: &[&str]) -> Ran {
+        let mut command = self.command(words);
+        let ran = command.stdin(Stdio::null()).stdout(out).output();
+        Ran::of(ran.unwrap())
+    }
+
     /// Runs it, and compares all that there is to compare.
     #[track_caller]
     pub fn writes(&self, words: &[&str], status: i32, out: &str, err: &str) {
@@ -104,6 +111,13 @@ impl Ran {
         assert_eq!(self.err, err);
         assert_eq!(self.status, status);
     }
+}
+
+/// A pipe whose reader has gone.
+pub fn gone() -> Stdio {
+    let (reader, writer) = io::pipe().unwrap();
+    drop(reader);
+    writer.into()
 }
 
 pub const SAMPLES: &str = concat!(env!("CARGO_MANIFEST_DIR"), "/../../samples");
