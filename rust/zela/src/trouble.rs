@@ -26,7 +26,8 @@ pub enum Trouble {
 }
 
 impl Trouble {
-    /// The refusal's number; a bad checksum is no refusal.
+    /// The refusal's number; a bad checksum is no refusal. That of a frame that breaks off is not the core's,
+    /// which is never asked about part of a frame.
     pub fn number(&self) -> Option<u8> {
         match self {
             Trouble::Refused(refusal) => Some(refusal.why.number()),
