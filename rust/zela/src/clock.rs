@@ -8,6 +8,8 @@ use std::ops::AddAssign;
 const SECOND: u64 = 14_112_000;
 /// Samples of a block.
 const BLOCK: u64 = 256;
+/// Blocks of a frame, unless it says that there are fewer.
+const BLOCKS: u64 = 6;
 
 /// A time from the start of a stream, or the length of a part of it.
 #[derive(Clone, Copy, Debug, Default, PartialEq, Eq, PartialOrd, Ord)]
@@ -58,9 +60,9 @@ impl fmt::Display for Time {
     }
 }
 
-/// Six blocks at the rate of fscod (TS 4.4.1.3).
+/// All blocks at the rate of fscod (TS 4.4.1.3).
 fn ac3_length(frame: &[u8]) -> Option<Time> {
-    Some(Time::of_blocks(6, rate(field(frame, 32, 2)?)?))
+    Some(Time::of_blocks(BLOCKS, rate(field(frame, 32, 2)?)?))
 }
 
 /// By strmtyp, substreamid, fscod, and numblkscod or fscod2 (TS E.1.3.1).
@@ -71,9 +73,9 @@ fn eac3_length(frame: &[u8]) -> Option<Time> {
     }
     let (fscod, next) = (field(frame, 32, 2)?, field(frame, 34, 2)?);
     if fscod == 3 {
-        return Some(Time::of_blocks(6, rate(next)? / 2));
+        return Some(Time::of_blocks(BLOCKS, rate(next)? / 2));
     }
-    let blocks = [1, 2, 3, 6].get(next as usize)?;
+    let blocks = [1, 2, 3, BLOCKS].get(next as usize)?;
     Some(Time::of_blocks(*blocks, rate(fscod)?))
 }
 

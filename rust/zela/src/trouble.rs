@@ -81,9 +81,9 @@ pub struct Bad {
 pub const BAD_KEYS: [&str; 4] = ["bad_offset", "bad_seconds", "bad_refusal", "bad_words"];
 
 /// The values of a bad place, if there is one.
-pub fn bad_values(bad: Option<Bad>) -> [Value; 4] {
+pub fn bad_values(bad: Option<Bad>) -> [Value; BAD_KEYS.len()] {
     let Some(Bad { place, trouble }) = bad else {
-        return [const { Value::None }; 4];
+        return [const { Value::None }; BAD_KEYS.len()];
     };
     [
         Value::Number(place.offset),
