@@ -18,7 +18,7 @@ use Rattle.refusal.proofs.Laws.{never, run-on, run-stays}
 use Rattle.bits.specs.Bits.{bitsAt}
 use Rattle.syntax.specs.declared.Place.{Place}
 use Rattle.syntax.specs.Reads.{unsound, rawOf}
-use Rattle.syntax.proofs.Bools.{or-false}
+use Rattle.refusal.proofs.TestLaws.{or-false}
 use Rattle.syntax.proofs.Tests.{sound-limit}
 use Rattle.syntax.proofs.ReadLaws.{raw-taken, raw-inside}
 use Rattle.tables.proofs.BandLaws.{below-at}

@@ -20,7 +20,7 @@ use Rattle.tables.specs.Pointers.{tableOf}
 use Rattle.alloc.specs.Channel.{pointersOf}
 use Rattle.tables.specs.Fits.{upto, lentFits, tablesFit, deltaFits}
 use Rattle.alloc.specs.Answers.{zeros, channelOf, filled, allocateOf}
-use Rattle.tables.proofs.FitLaws.{and-left, and-right}
+use Rattle.refusal.proofs.TestLaws.{and-left, and-right}
 
 -- a channel whose parameters are decoded
 module _ (exp : List ℕ) (start end : ℕ) (c : Curve) (v : Levels) (s : Carried) (d : Delta) (which : Pointers) (hearing logAdd : List ℕ) where

@@ -14,7 +14,8 @@ use Rattle.tables.specs.Numbers.{Within}
 use Rattle.tables.specs.Codes.{codeAt, slowDecay, fastDecay, slowGain, kneeTable, floorTable, fastGain, leakOf, snrOf}
 use Rattle.tables.specs.Fits.{upto, deltaFits}
 use Rattle.tables.proofs.CodeLaws.{code-within, gain-within, leak-within, snr-within}
-use Rattle.tables.proofs.FitLaws.{and-left, and-right, upto-at}
+use Rattle.refusal.proofs.TestLaws.{and-left, and-right}
+use Rattle.tables.proofs.FitLaws.{upto-at}
 use Rattle.alloc.specs.declared.Codes.{Codes}
 use Rattle.alloc.specs.declared.Leak.{Leak}
 use Rattle.alloc.specs.declared.Leak.the-variants as leak

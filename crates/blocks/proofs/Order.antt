@@ -15,7 +15,8 @@ use Rattle.tables.specs.declared.Pointers.{Pointers}
 use Rattle.tables.specs.Codes.{codeAt, slowDecay, fastDecay, slowGain, kneeTable, floorTable, fastGain, leakOf, snrOffset, fineOf, snrOf}
 use Rattle.tables.specs.Fits.{upto, tablesFit, deltaFits}
 use Rattle.tables.specs.Pointers.{tableOf}
-use Rattle.tables.proofs.FitLaws.{and-left, and-right, upto-at}
+use Rattle.refusal.proofs.TestLaws.{and-left, and-right}
+use Rattle.tables.proofs.FitLaws.{upto-at}
 use Rattle.alloc.specs.declared.Codes.{Codes}
 use Rattle.alloc.specs.declared.Leak.{Leak}
 use Rattle.alloc.specs.declared.Leak.the-variants as leak

@@ -126,10 +126,6 @@ module _ (frame : List ℕ) where
         counted (taken n) = refl
         counted (refused g) = segments-stay 1 (record { outcome = refused g; state = r .state }) refl
 
-  -- an element that is asked for by an equal ask
-  pub asked : (x y : Ask) (p q : Ran Standing ℕ) → x ≡ y → p ≡ nextOf frame x q → p ≡ nextOf frame y q
-  asked x y p q e f = f ∙ ap (λ (z : Ask). nextOf frame z q) e
-
   -- the first element that a reader reads
   pub first-is : (a : Ask) (st : Standing) (r : Ran Standing ℕ) → r ≡ record { outcome = taken 0; state = st } → nextOf frame a r ≡ readOf frame st a
   first-is a st r e = ap (λ (x : Ran Standing ℕ). nextOf frame a x) e ∙ next-on frame a (record { outcome = taken 0; state = st }) refl

@@ -3,7 +3,8 @@
 use Prim.Native.Nat.{ℕ, zero, suc, _+_}
 use mathlib.Core.List.{List}
 use lib.Dec.{ltb}
-use Rattle.refusal.specs.Refusals.{Outcome, taken, refused, refuseIf, Ran, settle, follow, thenRun}
+use Rattle.refusal.specs.Refusals.{Outcome, taken, refused, refuseIf, Ran, settle, thenRun}
+use Rattle.refusal.proofs.Laws.{then-keeps}
 use Rattle.tables.specs.declared.Delta.{Delta}
 use Rattle.syntax.specs.declared.Ask.{Ask}
 use Rattle.syntax.specs.Reads.{Standing, readOf}
@@ -16,31 +17,23 @@ use Rattle.blocks.specs.Side.{nsegAsk, offstAsk, lenAsk, baAsk, withSegm
 use Rattle.blocks.proofs.SideLaws.{second, third}
 
 module _ (frame : List ℕ) (slot : ℕ) (P : Standing → Type 0) (keeps : (st : Standing) (a : Ask) → P st → P (readOf frame st a .state)) where
-  then-keeps : {A B : Type 0} (r : Ran Standing A) (next : A → Standing → Ran Standing B) → P (r .state)
-      → ((a : A) (st : Standing) → P st → P (next a st .state)) → P (thenRun r next .state)
-  then-keeps {A} r next h f = go (r .outcome)
-    where
-      go : (o : Outcome A) → P (follow o (r .state) next .state)
-      go (taken a) = f a (r .state) h
-      go (refused g) = h
-
   segment-keeps : (d : Delta) (st : Standing) → P st → P (segmentOf frame slot d st .state)
   unfolding segmentOf
   segment-keeps d st h =
-      then-keeps (readOf frame st (offstAsk slot)) (second frame slot d) (keeps st (offstAsk slot) h)
-      (λ o s₁ h₁. then-keeps (readOf frame s₁ (lenAsk slot)) (third frame slot d o) (keeps s₁ (lenAsk slot) h₁)
-      (λ l s₂ h₂. then-keeps (readOf frame s₂ (baAsk slot)) (λ b st₁. reached (withSegment d o l b) st₁) (keeps s₂ (baAsk slot) h₂) (λ b s₃ h₃. h₃)))
+      then-keeps P (readOf frame st (offstAsk slot)) (second frame slot d) (keeps st (offstAsk slot) h)
+      (λ o s₁ h₁. then-keeps P (readOf frame s₁ (lenAsk slot)) (third frame slot d o) (keeps s₁ (lenAsk slot) h₁)
+      (λ l s₂ h₂. then-keeps P (readOf frame s₂ (baAsk slot)) (λ b st₁. reached (withSegment d o l b) st₁) (keeps s₂ (baAsk slot) h₂) (λ b s₃ h₃. h₃)))
 
   segments-keeps : (n : ℕ) (r : Ran Standing Delta) → P (r .state) → P (segmentsOf frame slot n r .state)
   unfolding segmentsOf
   segments-keeps zero r h = h
   segments-keeps (suc n) r h =
-      then-keeps (segmentsOf frame slot n r) (λ d st. segmentOf frame slot d st) (segments-keeps n r h) segment-keeps
+      then-keeps P (segmentsOf frame slot n r) (λ d st. segmentOf frame slot d st) (segments-keeps n r h) segment-keeps
 
   delta-keeps : (st : Standing) → P st → P (deltaOf frame slot st .state)
   unfolding deltaOf
   delta-keeps st h =
-      then-keeps (readOf frame st (nsegAsk slot)) (λ n st₁. segmentsOf frame slot (n + 1) (reached noDelta st₁)) (keeps st (nsegAsk slot) h)
+      then-keeps P (readOf frame st (nsegAsk slot)) (λ n st₁. segmentsOf frame slot (n + 1) (reached noDelta st₁)) (keeps st (nsegAsk slot) h)
       (λ n st₁ k. segments-keeps (n + 1) (reached noDelta st₁) k)
 
   pub read-delta-keeps : (st : Standing) (state : AllocState) → P st → P (readDeltaOf frame st state slot .state .standing)

@@ -9,7 +9,7 @@ use lib.Dec.{ltb}
 use lib.ListN.{length, set, replicate, length-replicate, length-append, replicate-append-replicate}
 use lib.Seq.{sets}
 use borrow.Author.Tests.{ltb-false}
-use Rattle.syntax.proofs.Bools.{or-false}
+use Rattle.refusal.proofs.TestLaws.{or-false}
 use Rattle.exponents.specs.Set.{digits, allDigits, running, offScale, outside, spread}
 use Rattle.exponents.specs.Turns.{lastOf}
 

@@ -5,7 +5,7 @@ use Prim.Native.Nat.{ℕ, zero, suc}
 use mathlib.Core.Path.{_≡_, refl, _∙_}
 use mathlib.Core.List.{List}
 use lib.ListN.{length}
-use Rattle.refusal.specs.Refusals.{Outcome, taken, refused, Ran, follow, thenRun}
+use Rattle.refusal.proofs.Laws.{then-keeps}
 use Rattle.syntax.specs.declared.Ask.{Ask}
 use Rattle.syntax.specs.Reads.{Standing, readOf}
 use Rattle.syntax.specs.Tiling.{Reached}
@@ -13,15 +13,6 @@ use Rattle.syntax.proofs.Reached.{read-reached}
 use Rattle.syntax.proofs.ReadLaws.{Roomy, read-room, read-keeps}
 use Rattle.exponents.specs.Set.{sizeOf, groupCount, firstOf}
 use Rattle.exponents.specs.Reads.{fitOf, absAsk, groupAsk, groupOf, groupsOf, setOf, readExponentsOf}
-
--- what a call and what follows it keep
-then-keeps : {A B : Type 0} (P : Standing → Type 0) (r : Ran Standing A) (next : A → Standing → Ran Standing B) → P (r .state)
-    → ((a : A) (st : Standing) → P st → P (next a st .state)) → P (thenRun r next .state)
-then-keeps {A} P r next h f = go (r .outcome)
-  where
-    go : (o : Outcome A) → P (follow o (r .state) next .state)
-    go (taken a) = f a (r .state) h
-    go (refused g) = h
 
 module _ (frame : List ℕ) (P : Standing → Type 0) (read : (st : Standing) (a : Ask) → P st → P (readOf frame st a .state)) where
   group-keeps : (ask : Ask) (e : ℕ) (vs : List ℕ) (st : Standing) → P st → P (groupOf frame ask e vs st .state)

@@ -10,7 +10,7 @@ use lib.ListN.{length, getD, set, replicate}
 use lib.Seq.{sets}
 use Rattle.refusal.specs.Refusals.{Outcome, taken, refused, refuseIf, Ran, follow}
 use Rattle.syntax.specs.Reads.{Standing, readOf}
-use Rattle.syntax.proofs.Bools.{or-false}
+use Rattle.refusal.proofs.TestLaws.{or-false}
 use Rattle.syntax.proofs.ReadLaws.{read-taken}
 use Rattle.exponents.specs.declared.ExpSet.{ExpSet}
 use Rattle.exponents.specs.Set.{isCoupling, sizeOf, groupCount, allDigits, running, offScale, outside, spread, firstOf, leading, outputs, baseOf, zeros, binsOf}

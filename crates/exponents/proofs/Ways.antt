@@ -11,7 +11,7 @@ use lib.Dec.{leb, ltb}
 use lib.ListN.{set}
 use lib.Seq.{sets}
 use borrow.Author.Tests.{ltb-false, leb-false, lt-ltb, le-ltb, eq-eqb, ne-eqb}
-use Rattle.refusal.specs.Refusals.{Grounds, grounds, groundsOf, Outcome, taken, refused, Ran, follow, thenRun}
+use Rattle.refusal.specs.Refusals.{Grounds, grounds, groundsOf, Outcome, taken, refused, Ran, ends, follow, thenRun}
 use Rattle.refusal.specs.declared.Refusal.{Refusal}
 use Rattle.refusal.proofs.Laws.{never}
 use Rattle.bits.specs.declared.Put.{Put}
@@ -21,14 +21,14 @@ use Rattle.syntax.specs.declared.Place.{Place}
 use Rattle.syntax.specs.declared.Ask.{Ask}
 use Rattle.syntax.specs.declared.Reader.{Reader}
 use Rattle.syntax.specs.Reads.{Standing, standing, seenOf, shown, readerOf, readOf, nextOf}
-use Rattle.syntax.proofs.Bools.{or-false}
+use Rattle.refusal.proofs.TestLaws.{or-false}
 use Rattle.syntax.proofs.Ends.{next-on, reader-is}
 use Rattle.syntax.proofs.ReadLaws.{read-taken}
 use Rattle.exponents.specs.declared.ExpSet.{ExpSet}
 use Rattle.exponents.specs.declared.Exponents.{Exponents}
 use Rattle.exponents.specs.declared.Run.{Run}
 use Rattle.exponents.specs.Set.{sizeOf, groupCount, digits, running, outside, spread, zeros}
-use Rattle.exponents.specs.Reads.{Left, left, exponentsOf, ends, unfit, absAsk, groupAsk, setOf, noSet, readExponentsOf}
+use Rattle.exponents.specs.Reads.{Left, left, exponentsOf, unfit, absAsk, groupAsk, setOf, noSet, readExponentsOf}
 use Rattle.exponents.specs.Turns.{Laid, laid, holding, runOf, lastOf, begunOf, unpackOn, groupOn, groupsOn, firstOn, finishOn}
 use Rattle.exponents.proofs.Turns.{way-is}
 

@@ -7,7 +7,7 @@ use mathlib.Core.List.{List, [], _∷_, _++_}
 use lib.ListN.{length}
 use lib.IntN.{pos}
 use lib.Dec.{leb, ltb}
-use Rattle.refusal.specs.Refusals.{Outcome, taken, refused, refuseIf, andThen, Ran, thenRun}
+use Rattle.refusal.specs.Refusals.{Outcome, taken, refused, refuseIf, andThen, Ran, ends, thenRun}
 use Rattle.bits.specs.Answers.{doneOf}
 use Rattle.syntax.specs.declared.Role.the-variants.{Plain}
 use Rattle.syntax.specs.declared.Ask.{Ask}
@@ -27,10 +27,6 @@ left st set = record { standing = st; set = set }
 -- what an answer means, with the log after it
 abbrev pub exponentsOf : Exponents → List ℕ → Ran Left Unit
 exponentsOf r log = record { outcome = doneOf (r .answer); state = left (standing (r .place) log) (r .set) }
-
--- an outcome that leaves all as it stands
-abbrev pub ends : {A : Type 0} → Standing → Outcome A → Ran Standing A
-ends st o = record { outcome = o; state = st }
 
 -- "6 for slot, strategy, then range (start < end ≤ 256 required)"
 abbrev pub unfit : ℕ → ℕ → ℕ → ℕ → Bool

@@ -6,14 +6,14 @@ use mathlib.Core.List.{List, [], _∷_}
 use lib.ListN.{length}
 use lib.Seq.{sets}
 use lib.Dec.{ltb}
-use Rattle.refusal.specs.Refusals.{Outcome, taken, told, refuseIf, Ran, thenRun}
+use Rattle.refusal.specs.Refusals.{Outcome, taken, told, refuseIf, Ran, ends, thenRun}
 use Rattle.bits.specs.declared.Put.{Put}
 use Rattle.bits.specs.declared.Put.the-variants as put
 use Rattle.syntax.specs.declared.Ask.{Ask}
 use Rattle.syntax.specs.Reads.{Standing, standing, readOf}
 use Rattle.exponents.specs.declared.Run.{Run}
 use Rattle.exponents.specs.Set.{digits, running, outside, spread, firstOf, leading, baseOf}
-use Rattle.exponents.specs.Reads.{Left, ends, absAsk, leaves}
+use Rattle.exponents.specs.Reads.{Left, absAsk, leaves}
 
 pub record Laid : Type 0 where
   pub last : ℕ

@@ -17,12 +17,12 @@ ghost use mathlib.Core.List.{List};
 ghost use Prim.Native.Nat.{ℕ, _+_, _≤_, _<_};
 ghost use lib.ListN.{set, replicate};
 ghost use lib.Seq.{sets};
-ghost use Rattle.refusal.specs.Refusals.{numberOf, grounds, refused, taken, thenRun};
+ghost use Rattle.refusal.specs.Refusals.{numberOf, grounds, refused, taken, ends, thenRun};
 ghost use Rattle.bits.specs.Answers.{doneOf};
 ghost use Rattle.syntax.specs.Reads.{standing, readerOf};
 ghost use Rattle.syntax.specs.Cursors.{moved};
 ghost use Rattle.exponents.specs.Set.{sizeOf, groupCount, digits, running, offScale, outside, spread};
-ghost use Rattle.exponents.specs.Reads.{exponentsOf, ends, unfit, askOf, noSet, leaves, readExponentsOf};
+ghost use Rattle.exponents.specs.Reads.{exponentsOf, unfit, askOf, noSet, leaves, readExponentsOf};
 ghost use Rattle.exponents.specs.Turns.{runOf, lastOf, begunOf, groupOn, groupsOn, firstOn, finishOn};
 
 // The slots after those of the full bandwidth channels, 0 to 4: coupling, and LFE, the last.

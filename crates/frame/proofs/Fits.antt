@@ -11,7 +11,7 @@ use Rattle.refusal.specs.Refusals.{Outcome, taken, refused, grounds}
 use Rattle.refusal.proofs.Laws.{past-test}
 use Rattle.syntax.specs.declared.Place.{Place}
 use Rattle.syntax.specs.Reads.{room, unsound}
-use Rattle.syntax.proofs.Bools.{or-false}
+use Rattle.refusal.proofs.TestLaws.{or-false}
 use Rattle.syntax.proofs.Tests.{sound-limit}
 use Rattle.frame.specs.Tail.{unfit, hasAux, behind, fitOf}
 

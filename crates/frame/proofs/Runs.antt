@@ -9,35 +9,21 @@ use lib.Dec.{ltb}
 use native.Mathlib.Omega.{arith}
 use borrow.Author.Tests.{lt-ltb, le-ltb}
 use Rattle.refusal.specs.declared.Refusal.{Refusal}
-use Rattle.refusal.specs.Refusals.{Grounds, Outcome, taken, refused, grounds, groundsOf, numberOf, told, refuseIf, andThen, placed, Ran, follow, thenRun}
-use Rattle.refusal.proofs.Laws.{never}
+use Rattle.refusal.specs.Refusals.{Grounds, Outcome, taken, refused, grounds, groundsOf, numberOf, told, refuseIf, andThen, placed, Ran, ends, follow, thenRun}
+use Rattle.refusal.proofs.Laws.{never, then-then}
 use Rattle.bits.specs.declared.Put.{Put}
 use Rattle.bits.specs.declared.Put.the-variants as put
 use Rattle.bits.specs.Answers.{doneOf}
 use Rattle.syntax.specs.declared.Place.{Place}
 use Rattle.syntax.specs.declared.Reader.{Reader}
 use Rattle.syntax.specs.declared.Moved.{Moved}
-use Rattle.syntax.specs.declared.Ask.{Ask}
 use Rattle.syntax.specs.declared.Role.the-variants.{AuxBits, AuxDataL, AuxDataE, CrcRsv, Crc2}
 use Rattle.syntax.specs.Reads.{Standing, standing, movedOf, seenOf, shown, readerOf, readOf, spanOf, nextOf}
 use Rattle.syntax.specs.Tiling.{tilingOf}
 use Rattle.syntax.proofs.Ends.{reader-is}
 use Rattle.probe.specs.declared.Codec.{Codec}
 use Rattle.frame.specs.declared.Stretch.{Stretch}
-use Rattle.frame.specs.Tail.{ends, hasAux, behind, fitOf, outside, userBits, tailAsk, reservedName, lengthOf, lastOf, tilesOf, elementsOf, tailOf}
-
--- what follows what follows
-pub then-then : {S A B C : Type 0} (r : Ran S A) (f : A → S → Ran S B) (g : B → S → Ran S C)
-    → thenRun (thenRun r f) g ≡ thenRun r (λ a s. thenRun (f a s) g)
-then-then {S} {A} {B} {C} r f g = go (r .outcome)
-  where
-    go : (o : Outcome A) → thenRun (follow o (r .state) f) g ≡ follow o (r .state) (λ a s. thenRun (f a s) g)
-    go (taken a) = refl
-    go (refused h) = refl
-
--- an element that is asked for by an equal ask
-pub asked : (frame : List ℕ) (q : Ran Standing ℕ) {x y : Ask} {p : Ran Standing ℕ} → x ≡ y → p ≡ nextOf frame x q → p ≡ nextOf frame y q
-asked frame q {x} {y} {p} e f = f ∙ ap (λ (z : Ask). nextOf frame z q) e
+use Rattle.frame.specs.Tail.{hasAux, behind, fitOf, outside, userBits, tailAsk, reservedName, lengthOf, lastOf, tilesOf, elementsOf, tailOf}
 
 -- a reader whose answer is refused
 seen-refused : (a : Put) (v : ℕ) {g : Grounds} → doneOf a ≡ refused g → seenOf a v ≡ refused g

@@ -10,7 +10,7 @@ use lib.ListN.{length}
 use lib.Dec.{ltb, T}
 use mir.Val.{hasKey}
 use types.Run.{OneOf, miss}
-use Rattle.refusal.specs.Refusals.{Grounds, Outcome, taken, refused, grounds, andThen, placed, Ran, follow, thenRun}
+use Rattle.refusal.specs.Refusals.{Grounds, Outcome, taken, refused, grounds, andThen, placed, Ran, ends, follow, thenRun}
 use Rattle.refusal.proofs.Laws.{never}
 use Rattle.syntax.specs.declared.Ask.{Ask}
 use Rattle.syntax.specs.declared.Role.{Role}
@@ -23,7 +23,7 @@ use Rattle.syntax.proofs.Reached.{read-reached, span-reached}
 use Rattle.syntax.proofs.Tiled.{accepted-sum, accepted-one, reaches-tiles}
 use Rattle.probe.specs.declared.Codec.{Codec}
 use Rattle.frame.specs.declared.Stretch.{Stretch}
-use Rattle.frame.specs.Tail.{ends, unfit, hasAux, behind, fitOf, outside, tailAsk, reservedName, lengthOf, lastOf, tilesOf, elementsOf, tailOf}
+use Rattle.frame.specs.Tail.{unfit, hasAux, behind, fitOf, outside, tailAsk, reservedName, lengthOf, lastOf, tilesOf, elementsOf, tailOf}
 use Rattle.frame.specs.Tiled.{TilesAll, Tiled, NeverUntiled}
 use Rattle.frame.proofs.Fits.{fit-passed}
 

@@ -7,7 +7,7 @@ use mathlib.Core.List.{List}
 use lib.ListN.{length}
 use lib.IntN.{negsuc}
 use lib.Dec.{eqb, ltb}
-use Rattle.refusal.specs.Refusals.{Outcome, taken, told, refuseIf, andThen, placed, Ran, thenRun}
+use Rattle.refusal.specs.Refusals.{Outcome, taken, told, refuseIf, andThen, placed, Ran, ends, thenRun}
 use Rattle.bits.specs.Bits.{bitsAt}
 use Rattle.syntax.specs.declared.Role.{Role}
 use Rattle.syntax.specs.declared.Role.the-variants.{AuxBits, AuxDataL, AuxDataE, CrcRsv, Crc2}
@@ -29,10 +29,6 @@ userBitsOf (tail.Refused r) = told r
 
 abbrev pub tailedOf : Tailed → List ℕ → Ran Standing Stretch
 tailedOf r log = record { outcome = userBitsOf (r .answer); state = standing (r .place) log }
-
--- an outcome that leaves all as it stands
-abbrev pub ends : {A : Type 0} → Standing → Outcome A → Ran Standing A
-ends st o = record { outcome = o; state = st }
 
 -- 6: a total above the limit, a cursor that isn't sound, or a count past the log's room
 abbrev pub unfit : ℕ → ℕ → Place → ℕ → Bool

@@ -1,3 +1,4 @@
 pub mod Decides
 pub mod Laws
+pub mod TestLaws
 pub mod Unique

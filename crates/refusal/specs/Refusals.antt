@@ -81,6 +81,10 @@ pub record Ran (S A : Type 0) : Type 0 where
   pub outcome : Outcome A
   pub state : S
 
+-- an outcome that leaves the state as it stands
+abbrev pub ends : {S A : Type 0} → S → Outcome A → Ran S A
+ends s o = record { outcome = o; state = s }
+
 -- a call that leaves the state s where it is refused, and s′ where it is taken
 abbrev pub settle : {S A : Type 0} → S → S → Outcome A → Ran S A
 settle s s′ (taken a) = record { outcome = taken a; state = s′ }

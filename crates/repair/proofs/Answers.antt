@@ -8,9 +8,9 @@ use lib.Dec.{ltb, eqb}
 use lib.ListN.{length}
 use borrow.Author.Tests.{le-ltb, lt-ltb, ltb-false}
 use Rattle.refusal.specs.Refusals.{Grounds, grounds, taken, refused, Ran}
+use Rattle.refusal.proofs.TestLaws.{or-false}
 use Rattle.probe.specs.declared.Codec.{Codec}
 use Rattle.repair.specs.Repair.{least, unfit, goodOf, crcStatusOf, repaired, repairOf}
-use Rattle.repair.proofs.Cases.{or-false}
 
 -- the first test that holds decides
 module _ (k : Codec) (n l : ℕ) (e : l ≡ least k) where

@@ -17,7 +17,7 @@ use Rattle.syntax.specs.declared.Place.{Place}
 use Rattle.syntax.specs.declared.Reading.{Reading}
 use Rattle.syntax.specs.declared.Reader.{Reader}
 use Rattle.syntax.specs.Reads.{Standing, standing, readingOf, rawReadingOf, fits, valueAt, elementOf, logged, readOf, spanAsk, spanOf, closes, closeOf, nextOf, seenOf, readerOf}
-use Rattle.syntax.proofs.Bools.{clash}
+use Rattle.refusal.proofs.TestLaws.{clash}
 
 module _ {S A : Type 0} (s s′ : S) where
   -- a test, and then tests that give no value
@@ -97,6 +97,10 @@ module _ (frame : List ℕ) (a : Ask) where
 
   pub next-stays : (r : Ran Standing ℕ) {g : Grounds} → r .outcome ≡ refused g → nextOf frame a r ≡ r
   next-stays r e = sym (next-stops r e) ∙ ap {B = Ran Standing ℕ} (λ o. record { outcome = o; state = r .state }) (sym e)
+
+-- an element that is asked for by an equal ask
+pub asked : (frame : List ℕ) (q : Ran Standing ℕ) {x y : Ask} {p : Ran Standing ℕ} → x ≡ y → p ≡ nextOf frame x q → p ≡ nextOf frame y q
+asked frame q {x} {y} {p} e f = f ∙ ap (λ (z : Ask). nextOf frame z q) e
 
 -- a reader's meaning, by its parts
 pub reader-is : (q : Reader) (log : List ℕ) {p : Place} {o : Outcome ℕ} → q .place ≡ p → seenOf (q .answer) (q .value) ≡ o

@@ -20,7 +20,7 @@ use Rattle.syntax.specs.declared.Place.{Place}
 use Rattle.syntax.specs.declared.Ask.{Ask}
 use Rattle.syntax.specs.Elements.{written}
 use Rattle.syntax.specs.Reads.{Standing, room, unsound, fits, valueAt, elementOf, logged, readOf, ahead, rawOf, spanAsk, spanOf, closes, closeOf, nextOf}
-use Rattle.syntax.proofs.Bools.{or-false}
+use Rattle.refusal.proofs.TestLaws.{or-false}
 use Rattle.syntax.proofs.Log.{length-written, written-before, written-after}
 use Rattle.syntax.proofs.Tests.{sound-limit, limit-sound, Free, room-words, fits-free, free-fits, closes-free, free-closes, Told, told-first, fits-told, closes-told}
 use Rattle.syntax.proofs.Ends.{read-on, span-on, close-on, next-on, next-stays}

@@ -13,7 +13,7 @@ use Rattle.syntax.specs.declared.Role.{Role}
 use Rattle.syntax.specs.declared.Role.the-variants.{Plain, Sync, Crc1, Crc2, CrcRsv, FrameSize, Dialnorm, ComprExists, Compr, DynrngExists, Dynrng, Skiple, Skipl, Skipfld, Addbsi, Mantissas, AuxBits, AuxDataL, AuxDataE, BlkStrtInfoE, BlkStrtInfo}
 use Rattle.syntax.proofs.Role as role
 use Rattle.syntax.specs.Elements.{roleNumber, programmeOf, roleWord, roleOf}
-use Rattle.syntax.proofs.Bools.{clash, and-true}
+use Rattle.refusal.proofs.TestLaws.{clash, and-left, and-right}
 
 -- a test holds at each of some numbers
 abbrev pub every : (ℕ → Bool) → List ℕ → Bool
@@ -23,9 +23,9 @@ every f (k ∷ ks) = f k && every f ks
 -- so it holds at one of them
 one-of : (f : ℕ → Bool) (ks : List ℕ) (n : ℕ) → every f ks ≡ true → OneOf ks n → f n ≡ true
 one-of f [] n e h = absurd h
-one-of f (k ∷ []) n e h = rw h (and-true (f k) true e .0)
-one-of f (k ∷ k′ ∷ ks) n e (inl h) = rw h (and-true (f k) _ e .0)
-one-of f (k ∷ k′ ∷ ks) n e (inr h) = one-of f (k′ ∷ ks) n (and-true (f k) _ e .1) h
+one-of f (k ∷ []) n e h = rw h (and-left (f k) true e)
+one-of f (k ∷ k′ ∷ ks) n e (inl h) = rw h (and-left (f k) _ e)
+one-of f (k ∷ k′ ∷ ks) n e (inr h) = one-of f (k′ ∷ ks) n (and-right (f k) _ e) h
 
 -- the code's cases are numbered as the roles are
 tag-number : (r : Role) → tagOf role.the-type r ≡ roleNumber r

@@ -13,7 +13,7 @@ use mir.Syntax.{Width, w8, w16, w32}
 use mir.Val.{SFits, hbits, ofZ, toZ}
 use mir.Facts.{toZ-ofZ, toZ-pos}
 use Rattle.syntax.specs.Elements.{signedWord, signedOf}
-use Rattle.syntax.proofs.Bools.{clash}
+use Rattle.refusal.proofs.TestLaws.{clash}
 
 -- what fits in 8 bits fits in 16, and what fits in 16 in 32
 pub widen8 : (z : ℤ) → SFits w8 z → SFits w16 z

@@ -14,7 +14,7 @@ use Rattle.refusal.specs.Refusals.{Grounds, grounds, Outcome, taken, refused}
 use Rattle.refusal.proofs.Laws.{never, past-test}
 use Rattle.syntax.specs.declared.Place.{Place}
 use Rattle.syntax.specs.Reads.{room, unsound, fits, closes}
-use Rattle.syntax.proofs.Bools.{or-false}
+use Rattle.refusal.proofs.TestLaws.{or-false}
 
 -- a sound cursor
 pub sound-limit : (len : ℕ) (p : Place) → unsound len p ≡ false → (p .limit ≤ 32768) × (p .limit ≤ 8 * len)

@@ -13,11 +13,12 @@ use lib.Dec.{eqb, ltb}
 use borrow.Author.Tests.{eqb-true, eq-eqb, ltb-false, le-ltb, not-false}
 use Rattle.refusal.specs.Refusals.{taken}
 use Rattle.refusal.proofs.Laws.{past-test}
+use Rattle.refusal.proofs.TestLaws.{and-left, and-right}
 use Rattle.syntax.specs.declared.Element.{Element}
 use Rattle.syntax.specs.Elements.{written}
 use Rattle.syntax.specs.Reads.{room}
 use Rattle.syntax.specs.Tiling.{posAt, widthAt, endAt, follows, tiles, tilingOf, widths, Reaches, InOne}
-use Rattle.syntax.proofs.Bools.{off-turn, and-true, lt-or-ge}
+use Rattle.syntax.proofs.Bools.{off-turn, lt-or-ge}
 use Rattle.syntax.proofs.Log.{written-before, written-at}
 
 -- the test on the first n elements, and what it says of each
@@ -25,10 +26,9 @@ pub follows-each : (log : List ℕ) (n : ℕ) → follows log n ≡ true → (k 
 unfolding follows
 follows-each log zero e k h = absurd (omega arith)
 follows-each log (suc n) e k h =
-    let a = and-true (follows log n) _ e in
     ⊎-elim
-    (λ (l : k < n). follows-each log n (a .0) k l)
-    (λ (g : n ≤ k). let z : k ≡ n = omega arith in rw z (eqb-true _ _ (a .1)))
+    (λ (l : k < n). follows-each log n (and-left (follows log n) _ e) k l)
+    (λ (g : n ≤ k). let z : k ≡ n = omega arith in rw z (eqb-true _ _ (and-right (follows log n) _ e)))
     (lt-or-ge k n)
 
 pub each-follows : (log : List ℕ) (n : ℕ) → ((k : ℕ) → k < n → posAt log k ≡ endAt log k) → follows log n ≡ true
@@ -69,8 +69,7 @@ breaks-at log n total k e f = rw (← e, f)
 pub tiles-reaches : (log : List ℕ) (n total : ℕ) → tiles log n total ≡ true → Reaches log n total
 unfolding tiles
 tiles-reaches log n total e =
-    let a = and-true (follows log n) _ e in
-    record { starts = follows-each log n (a .0); ends = eqb-true _ _ (a .1) }
+    record { starts = follows-each log n (and-left (follows log n) _ e); ends = eqb-true _ _ (and-right (follows log n) _ e) }
 
 pub reaches-tiles : (log : List ℕ) (n total : ℕ) → Reaches log n total → tiles log n total ≡ true
 unfolding tiles

@@ -5,18 +5,11 @@ use mathlib.Core.Path.{_≡_, _∙_, subst, sym, ap, refl}
 use mathlib.Core.List.{List}
 use native.Mathlib.Omega.{arith}
 use lib.ListN.{length, getD, List·getD-eq-default}
-use mathlib.Core.Bool.{Bool, true, false, not, _&&_}
-use lib.Dec.{leb, ltb, T}
+use mathlib.Core.Bool.{Bool, true, false, _&&_}
+use lib.Dec.{leb, ltb}
 use borrow.Author.Tests.{ltb-true, ltb-false, leb-true, le-leb}
+use Rattle.refusal.proofs.TestLaws.{and-left, and-right}
 use Rattle.tables.specs.Fits.{upto}
-
-pub and-left : (a b : Bool) → (a && b) ≡ true → a ≡ true
-and-left true b e = refl
-and-left false b e = e
-
-pub and-right : (a b : Bool) → (a && b) ≡ true → b ≡ true
-and-right true b e = e
-and-right false b e = absurd (subst (λ (x : Bool). T (not x)) e tt)
 
 pub upto-at : (top : ℕ) (l : List ℕ) (start n : ℕ) → upto top l start n ≡ true → (k : ℕ) → start ≤ k → k < start + n → getD l k 0 ≤ top
 unfolding upto

@@ -16,7 +16,7 @@ use Rattle.refusal.specs.Refusals.{Grounds, Outcome, taken, refused, refuseIf, 
 use Rattle.refusal.proofs.Laws.{run-stays}
 use Rattle.syntax.specs.declared.Place.{Place}
 use Rattle.syntax.specs.Reads.{unsound, ahead}
-use Rattle.syntax.proofs.Bools.{or-false}
+use Rattle.refusal.proofs.TestLaws.{or-false}
 use Rattle.walks.specs.declared.Groups.{Groups}
 use Rattle.walks.specs.Walk.{State, state, going, stopped, cost, counted, passing, movingOf, mantissaOf, walkCodes, unfitRange, unreachable, unfitWalk, walkOf, Reachable}
 

@@ -1,26 +1,21 @@
 -- `alloc::excite_step` meets its contract: the low bands of a channel that begins at band 0, and all others.
 -- Assumes nothing.
 use Prim.Native.Nat.{_<_, _+_}
-use mathlib.Core.Path.{_≡_, refl, sym, _∙_}
-use mathlib.Core.Bool.{Bool, true, false, _&&_}
+use mathlib.Core.Path.{sym, _∙_}
 use native.Mathlib.Omega.{arith}
 use borrow.Author.Tests.{ltb-true}
 use lib.Dec.{ltb, eqb}
 use mir.Facts.{toZ-ofZ}
+use Rattle.refusal.proofs.TestLaws.{and-right}
 use Rattle.alloc.specs.Excite.{step}
 use Rattle.tables.proofs.Signed.{within-fits, widen}
 use Rattle.alloc.proofs.excite_step.Statement.{statement}
 use Rattle.alloc.proofs.excite_step.Tie as tie
 
-second : (a b : Bool) → (a && b) ≡ true → b ≡ true
-second true b e = e
-second false true e = refl
-second false false e = e
-
 below : (c : tie.Then1) → c .before .before .before .args .k .0 < 22
 below c =
     let s = c .before .before .before in
-    ltb-true (s .args .k .0) 22 (second (eqb (s .args .first .0) 0) (ltb (s .args .k .0) 22) (sym (c .before .is-low .ensures) ∙ c .if1 .taken))
+    ltb-true (s .args .k .0) 22 (and-right (eqb (s .args .first .0) 0) (ltb (s .args .k .0) 22) (sym (c .before .is-low .ensures) ∙ c .if1 .taken))
 
 add-q : tie.Need-add-q
 add-q c = omega (arith, below c)

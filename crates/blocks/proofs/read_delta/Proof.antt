@@ -10,7 +10,8 @@ use Rattle.syntax.specs.Reads.{standing, readerOf}
 use Rattle.syntax.proofs.Ends.{reader-is}
 use Rattle.blocks.specs.Block.{noDelta}
 use Rattle.blocks.specs.Side.{nsegAsk, segmentsOf, over}
-use Rattle.blocks.proofs.SideLaws.{delta-is, asked, first-is, value-below, delta-6, delta-done}
+use Rattle.syntax.proofs.Ends.{asked}
+use Rattle.blocks.proofs.SideLaws.{delta-is, first-is, value-below, delta-6, delta-done}
 use Rattle.blocks.proofs.read_delta.Statement.{statement}
 use Rattle.blocks.proofs.read_delta.Tie as tie
 
@@ -22,7 +23,7 @@ returns c =
 few : (c : tie.After-next) → c .next .result .value < 8
 few c =
     let a = c .before .before .before .before .before .before .before .args in
-    value-below (now (a .frame)) (nsegAsk (a .slot)) _ (c .next .result) _ 8 (asked (now (a .frame)) _ _ _ _ (c .before .field .ensures) (c .next .ensures .0))
+    value-below (now (a .frame)) (nsegAsk (a .slot)) _ (c .next .result) _ 8 (asked (now (a .frame)) _ (c .before .field .ensures) (c .next .ensures .0))
     (c .next .ensures .1) (omega arith) (omega arith)
 
 add-n : tie.Need-add-n
@@ -50,7 +51,7 @@ returns-2 c =
     let f = now (a .frame) in
     let st = standing (a .place) (now (a .log)) in
     let nseg =
-    asked f _ _ _ _ (n .before .field .ensures) (n .next .ensures .0)
+    asked f _ (n .before .field .ensures) (n .next .ensures .0)
     ∙ first-is f (nsegAsk (a .slot)) st _ (reader-is (b .begin .result) (now (a .log)) (b .begin .ensures .0) (b .begin .ensures .1)) in
     delta-done f st (a .state) (a .slot) (b .before .if1 .left) _
     (s .segments .ensures

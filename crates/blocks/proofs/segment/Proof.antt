@@ -8,7 +8,8 @@ use borrow.Author.Needs.{needs}
 use Rattle.tables.specs.declared.Delta.{Delta}
 use Rattle.syntax.specs.Reads.{readerOf}
 use Rattle.blocks.specs.Side.{offstAsk, lenAsk, baAsk, withSegment}
-use Rattle.blocks.proofs.SideLaws.{segment-is, asked, value-below}
+use Rattle.syntax.proofs.Ends.{asked}
+use Rattle.blocks.proofs.SideLaws.{segment-is, value-below}
 use Rattle.blocks.proofs.segment.Statement.{statement}
 use Rattle.blocks.proofs.segment.Tie as tie
 
@@ -16,21 +17,21 @@ byte-requires : tie.Need-byte-requires
 byte-requires c κs =
     let n = c .before .before .before .before .before .before .before .before .before .before .before .before in
     let a = n .before .before .before .before .before .before .before .args in
-    value-below (now (a .frame)) (offstAsk (a .slot)) _ (n .next .result) _ 256 (asked (now (a .frame)) _ _ _ _ (n .before .field .ensures) (n .next .ensures .0))
+    value-below (now (a .frame)) (offstAsk (a .slot)) _ (n .next .result) _ 256 (asked (now (a .frame)) _ (n .before .field .ensures) (n .next .ensures .0))
     (n .next .ensures .1) (omega arith) (omega arith)
 
 byte-requires-2 : tie.Need-byte-requires-2
 byte-requires-2 c κs =
     let n = c .before .before .before .before .before .before .before .before in
     let a = n .before .before .before .before .before .before .before .before .before .before .before .before .args in
-    value-below (now (a .frame)) (lenAsk (a .slot)) _ (n .next2 .result) _ 256 (asked (now (a .frame)) _ _ _ _ (n .before .field2 .ensures) (n .next2 .ensures .0))
+    value-below (now (a .frame)) (lenAsk (a .slot)) _ (n .next2 .result) _ 256 (asked (now (a .frame)) _ (n .before .field2 .ensures) (n .next2 .ensures .0))
     (n .next2 .ensures .1) (omega arith) (omega arith)
 
 byte-requires-3 : tie.Need-byte-requires-3
 byte-requires-3 c κs =
     let n = c .before .before .before .before in
     let a = n .before .before .before .before .before .before .before .before .before .before .before .before .before .before .before .before .before .args in
-    value-below (now (a .frame)) (baAsk (a .slot)) _ (n .next3 .result) _ 256 (asked (now (a .frame)) _ _ _ _ (n .before .field3 .ensures) (n .next3 .ensures .0))
+    value-below (now (a .frame)) (baAsk (a .slot)) _ (n .next3 .result) _ 256 (asked (now (a .frame)) _ (n .before .field3 .ensures) (n .next3 .ensures .0))
     (n .next3 .ensures .1) (omega arith) (omega arith)
 
 -- the log's length after each element
@@ -54,9 +55,9 @@ returns c =
     let a = o .before .before .before .before .before .before .before .args in
     let f = now (a .frame) in (
       segment-is f (a .slot) (a .w .delta) _ (readerOf (a .w .reader) (now (a .log))) _ _ _
-          (asked f _ _ _ _ (o .before .field .ensures) (o .next .ensures .0))
-          (asked f _ _ _ _ (l .before .field2 .ensures) (l .next2 .ensures .0))
-          (asked f _ _ _ _ (b .before .field3 .ensures) (b .next3 .ensures .0))
+          (asked f _ (o .before .field .ensures) (o .next .ensures .0))
+          (asked f _ (l .before .field2 .ensures) (l .next2 .ensures .0))
+          (asked f _ (b .before .field3 .ensures) (b .next3 .ensures .0))
           (c .put-segment .ensures
           ∙ (λ i. withSegment (a .w .delta) ((c .before .before .before .byte .ensures ∙ o .next .ensures .1) i) ((c .before .before .byte2 .ensures ∙ l .next2 .ensures .1) i) ((c .before .byte3 .ensures ∙ b .next3 .ensures .1) i))),
       ap (λ (d : Delta). d .count) (c .put-segment .ensures),

@@ -3,10 +3,9 @@
 use Prim.Native.Nat.{ℕ, _≤_}
 use mathlib.Core.Path.{sym, ap, _∙_, subst}
 use denote.Ref.{now}
-use Rattle.refusal.specs.Refusals.{taken, Ran, thenRun}
+use Rattle.refusal.specs.Refusals.{taken, Ran, ends, thenRun}
 use Rattle.syntax.specs.Reads.{Standing, standing, shown}
 use borrow.Author.Needs.{needs}
-use Rattle.exponents.specs.Reads.{ends}
 use Rattle.exponents.specs.Turns.{begunOf, firstOn}
 use Rattle.exponents.proofs.Ways.{first-reads, abs-low}
 use Rattle.exponents.proofs.first.Statement.{statement}

@@ -5,7 +5,8 @@ use denote.Ref.{now}
 use Prim.Native.Nat.{ℕ}
 use Rattle.syntax.specs.declared.Role.the-variants.{CrcRsv}
 use Rattle.frame.specs.Tail.{tailAsk}
-use Rattle.frame.proofs.Runs.{asked, last-is}
+use Rattle.syntax.proofs.Ends.{asked}
+use Rattle.frame.proofs.Runs.{last-is}
 use borrow.Author.Needs.{needs}
 use Rattle.frame.proofs.last_three.Statement.{statement}
 use Rattle.frame.proofs.last_three.Tie as tie

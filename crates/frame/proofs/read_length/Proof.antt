@@ -3,7 +3,8 @@
 use mathlib.Core.Path.{refl}
 use denote.Ref.{now}
 use Rattle.syntax.specs.Reads.{readerOf}
-use Rattle.frame.proofs.Runs.{asked, length-exceeds, length-read, shows-refused}
+use Rattle.syntax.proofs.Ends.{asked}
+use Rattle.frame.proofs.Runs.{length-exceeds, length-read, shows-refused}
 use borrow.Author.Needs.{needs}
 use Rattle.frame.proofs.read_length.Statement.{statement}
 use Rattle.frame.proofs.read_length.Tie as tie
