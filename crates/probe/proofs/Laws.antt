@@ -11,7 +11,7 @@ use Rattle.refusal.specs.Refusals.{Outcome, taken, refused, grounds}
 use Rattle.bits.specs.Bits.{bitsAt}
 use Rattle.probe.specs.declared.Codec.the-variants.{Ac3}
 use Rattle.probe.specs.declared.Header.{Header}
-use Rattle.probe.specs.Probe.{header, wordsOf, ac3Of, eac3Of, probeOf}
+use Rattle.probe.specs.Probe.{syncWord, header, wordsOf, ac3Of, eac3Of, probeOf}
 
 -- an AC-3 header, with the two fields that are read of it
 module _ (bs : List ℕ) {fscod code : ℕ} (f : fscod ≡ bitsAt bs 32 2) (k : code ≡ bitsAt bs 34 6) {o : Outcome Header} where
@@ -34,22 +34,22 @@ module _ (bs : List ℕ) {o : Outcome Header} where
   too-short h g = rw (lt-ltb (length bs) 6 h) g
 
   module _ {sync : ℕ} (s : sync ≡ bitsAt bs 0 16) (h : 6 ≤ length bs) where
-    pub no-sync : sync ≢ 0x0B77 → o ≡ refused (grounds 2 0) → o ≡ probeOf bs
+    pub no-sync : sync ≢ syncWord → o ≡ refused (grounds 2 0) → o ≡ probeOf bs
     unfolding probeOf
-    no-sync e g = rw (le-ltb (length bs) 6 h, ← s, ne-eqb sync 0x0B77 e) g
+    no-sync e g = rw (le-ltb (length bs) 6 h, ← s, ne-eqb sync syncWord e) g
 
-    module _ {bsid : ℕ} (b : bsid ≡ bitsAt bs 40 5) (e : sync ≡ 0x0B77) where
+    module _ {bsid : ℕ} (b : bsid ≡ bitsAt bs 40 5) (e : sync ≡ syncWord) where
       pub is-ac3 : bsid < 9 → o ≡ ac3Of bs → o ≡ probeOf bs
       unfolding probeOf
-      is-ac3 l g = rw (le-ltb (length bs) 6 h, ← s, eq-eqb sync 0x0B77 e, ← b, lt-ltb bsid 9 l) g
+      is-ac3 l g = rw (le-ltb (length bs) 6 h, ← s, eq-eqb sync syncWord e, ← b, lt-ltb bsid 9 l) g
 
       pub is-eac3 : 11 ≤ bsid → bsid < 17 → o ≡ eac3Of bs → o ≡ probeOf bs
       unfolding probeOf
       is-eac3 l m g =
-          rw (le-ltb (length bs) 6 h, ← s, eq-eqb sync 0x0B77 e, ← b, le-ltb bsid 9 (omega arith), le-ltb bsid 11 l, le-ltb 16 bsid (omega arith)) g
+          rw (le-ltb (length bs) 6 h, ← s, eq-eqb sync syncWord e, ← b, le-ltb bsid 9 (omega arith), le-ltb bsid 11 l, le-ltb 16 bsid (omega arith)) g
 
       pub no-bsid : 9 ≤ bsid → (bsid < 11) ⊎ (16 < bsid) → o ≡ refused (grounds 5 0) → o ≡ probeOf bs
       unfolding probeOf
-      no-bsid l (inl m) g = rw (le-ltb (length bs) 6 h, ← s, eq-eqb sync 0x0B77 e, ← b, le-ltb bsid 9 l, lt-ltb bsid 11 m) g
+      no-bsid l (inl m) g = rw (le-ltb (length bs) 6 h, ← s, eq-eqb sync syncWord e, ← b, le-ltb bsid 9 l, lt-ltb bsid 11 m) g
       no-bsid l (inr m) g =
-          rw (le-ltb (length bs) 6 h, ← s, eq-eqb sync 0x0B77 e, ← b, le-ltb bsid 9 l, le-ltb bsid 11 (omega arith), lt-ltb 16 bsid m) g
+          rw (le-ltb (length bs) 6 h, ← s, eq-eqb sync syncWord e, ← b, le-ltb bsid 9 l, le-ltb bsid 11 (omega arith), lt-ltb 16 bsid m) g

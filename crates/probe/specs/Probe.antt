@@ -19,6 +19,10 @@ abbrev pub probedOf : Probed → Outcome Header
 probedOf (probed.Is h) = taken h
 probedOf (probed.Refused r) = told r
 
+-- the sync word: 2 is "first 16 bits aren't 0x0B77"
+abbrev pub syncWord : ℕ
+syncWord = 0x0B77
+
 -- "With R the rate of frmsizecod halved, from 32, 40, .. 640"
 abbrev pub rates : List ℕ
 rates =
@@ -55,7 +59,7 @@ unfoldable pub probeOf : List ℕ → Outcome Header
 probeOf bs =
     let bsid = bitsAt bs 40 5 in
     refuseIf (ltb (length bs) 6) 3 0
-    (refuseIf (not (eqb (bitsAt bs 0 16) 0x0B77)) 2 0
+    (refuseIf (not (eqb (bitsAt bs 0 16) syncWord)) 2 0
     (cond (ltb bsid 9) (ac3Of bs)
     (refuseIf (ltb bsid 11 || ltb 16 bsid) 5 0
     (eac3Of bs))))

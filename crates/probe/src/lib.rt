@@ -29,6 +29,9 @@ pub enum Probed {
     Refused(Refusal),
 }
 
+// The sync word: the first 16 bits of every frame (TS 4.4.1.1).
+pub const SYNC: u32 = 0x0B77;
+
 // The bit rates, in kilobits a second, by frmsizecod halved (TS 4.4.1.4).
 const RATES: [u16; 19] = [
     32,
@@ -135,7 +138,7 @@ pub fn probe(frame: &[u8]) -> Probed
     if frame.len() < 6 {
         return refused(Why::ShortHeader);
     }
-    if field(frame, 0, 16) != 0x0B77 {
+    if field(frame, 0, 16) != SYNC {
         return refused(Why::NoSync);
     }
     let bsid = field(frame, 40, 5);

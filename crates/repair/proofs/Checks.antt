@@ -14,6 +14,7 @@ use borrow.Author.Tests.{eq-eqb, ne-eqb}
 use Rattle.crc.specs.Crc.{poly, crcOf}
 use Rattle.crc.proofs.Linear.{crc-append}
 use Rattle.crc.proofs.Ends.{crc-tail, crc-flip, crc1-good}
+use Rattle.probe.specs.Probe.{syncWord}
 use Rattle.repair.specs.Repair.{part, fiveEighths, crcTo, crc1For, putWord, withCrc1, withCrc2, flipped, clashes, settled}
 use Rattle.repair.proofs.Parts.{part-two, part-more, part-set, rest-put, part-last, part-front, length-put}
 
@@ -96,13 +97,13 @@ crc2-as : (t : List ℕ) (n v : ℕ) → length t ≡ n → v ≡ crcTo (n - 2) 
 unfolding withCrc2
 crc2-as t n v l e = rw (l, e)
 
-pub put-flipped : (s : List ℕ) (c : ℕ) → 5 ≤ length s → c ≡ crcTo (length s - 2) s → c ≡ 0x0B77 → putWord (flipped s) (length s - 2) (bitXor c poly) ≡ withCrc2 (settled s)
+pub put-flipped : (s : List ℕ) (c : ℕ) → 5 ≤ length s → c ≡ crcTo (length s - 2) s → c ≡ syncWord → putWord (flipped s) (length s - 2) (bitXor c poly) ≡ withCrc2 (settled s)
 unfolding settled
 put-flipped s c h e z =
     crc2-as (flipped s) (length s) (bitXor c poly) (length-flipped s) (ap (λ (k : ℕ). bitXor k poly) e ∙ sym (crc-flipped s h))
-    ∙ ap (λ (b : Bool). withCrc2 (cond b (flipped s) s)) (sym (eq-eqb (crcTo (length s - 2) s) 0x0B77 (sym e ∙ z)))
+    ∙ ap (λ (b : Bool). withCrc2 (cond b (flipped s) s)) (sym (eq-eqb (crcTo (length s - 2) s) syncWord (sym e ∙ z)))
 
-pub put-plain : (s : List ℕ) (c : ℕ) → c ≡ crcTo (length s - 2) s → c ≢ 0x0B77 → putWord s (length s - 2) c ≡ withCrc2 (settled s)
+pub put-plain : (s : List ℕ) (c : ℕ) → c ≡ crcTo (length s - 2) s → c ≢ syncWord → putWord s (length s - 2) c ≡ withCrc2 (settled s)
 unfolding settled
 put-plain s c e z =
-    crc2-as s (length s) c refl e ∙ ap (λ (b : Bool). withCrc2 (cond b (flipped s) s)) (sym (ne-eqb (crcTo (length s - 2) s) 0x0B77 (λ q. z (e ∙ q))))
+    crc2-as s (length s) c refl e ∙ ap (λ (b : Bool). withCrc2 (cond b (flipped s) s)) (sym (ne-eqb (crcTo (length s - 2) s) syncWord (λ q. z (e ∙ q))))

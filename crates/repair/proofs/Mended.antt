@@ -22,6 +22,7 @@ use Rattle.crc.proofs.Bytes.{high-lt}
 use Rattle.crc.proofs.Ends.{crc1-lt, crc1-only, crc-tail-only}
 use Rattle.probe.specs.declared.Codec.{Codec}
 use Rattle.probe.specs.declared.Codec.the-variants as codec
+use Rattle.probe.specs.Probe.{syncWord}
 use Rattle.repair.specs.Repair.{least, unfit, fitOf, fiveEighths, part, crcTo, crc1Good, crc2Good, Checked, both, second, goodOf, crcStatusOf, putWord, crc1For, withCrc1, withCrc2, flipped, clashes, settled, repaired, repairOf}
 use Rattle.repair.specs.Mended.{allGood, Outside, Kept, wordAt, crc2In, Bytes, Mended, MendedAc3, GoodStays, RefusedStays}
 use Rattle.repair.proofs.Cases.{equal-or-not}
@@ -177,16 +178,16 @@ crc2-stands s h =
 
 -- a repair that flips ends with 0x8B72, and none with the sync word
 settled-flips : (s : List ℕ) → 5 ≤ length s → clashes s ≡ true → crcTo (length s - 2) (flipped s) ≡ 0x8B72
-settled-flips s h e = crc-flipped s h ∙ ap (λ (c : ℕ). bitXor c poly) (eqb-true (crcTo (length s - 2) s) 0x0B77 e)
+settled-flips s h e = crc-flipped s h ∙ ap (λ (c : ℕ). bitXor c poly) (eqb-true (crcTo (length s - 2) s) syncWord e)
 
 module _ (s : List ℕ) (h : 5 ≤ length s) where
-  no-clash : crcTo (length (settled s) - 2) (settled s) ≢ 0x0B77
+  no-clash : crcTo (length (settled s) - 2) (settled s) ≢ syncWord
   no-clash =
-      settled-either (λ t. crcTo (length t - 2) t ≢ 0x0B77) s
+      settled-either (λ t. crcTo (length t - 2) t ≢ syncWord) s
       (λ e z. other (sym (ap (λ (n : ℕ). crcTo (n - 2) (flipped s)) (length-flipped s) ∙ settled-flips s h e) ∙ z))
-      (λ e. eqb-false (crcTo (length s - 2) s) 0x0B77 e)
+      (λ e. eqb-false (crcTo (length s - 2) s) syncWord e)
     where
-      other : _≡_ {A = ℕ} 0x8B72 0x0B77 → ⊥
+      other : _≡_ {A = ℕ} 0x8B72 syncWord → ⊥
       other q = omega arith
 
   flips-to : clashes s ≡ true → crcTo (length (settled s) - 2) (settled s) ≡ 0x8B72
@@ -242,7 +243,7 @@ good-stays codec.Ac3 s b e n =
     let q = both-true (p .1) in
     let f = fit-bounds codec.Ac3 (length s) (p .0) in
     let h : 4 ≤ length s = omega (arith, f .0) in
-    let calm = settled-either (λ t. t ≡ s) s (λ c. absurd (n refl (crc2-is s h b (q .1) ∙ eqb-true (crcTo (length s - 2) s) 0x0B77 c))) (λ _. refl) in
+    let calm = settled-either (λ t. t ≡ s) s (λ c. absurd (n refl (crc2-is s h b (q .1) ∙ eqb-true (crcTo (length s - 2) s) syncWord c))) (λ _. refl) in
     ap (λ t. withCrc2 (settled t)) (good-crc1 s (f .0) (f .1) b (q .0)) ∙ ap withCrc2 calm ∙ good-crc2 s h b (q .1)
 good-stays codec.Eac3 s b e n =
     let p = good-facts codec.Eac3 s e in

@@ -10,6 +10,7 @@ use Rattle.refusal.specs.Refusals.{Grounds, taken, refused, grounds}
 use Rattle.bits.specs.Bits.{bitAt}
 use Rattle.probe.specs.declared.Codec.{Codec}
 use Rattle.probe.specs.declared.Codec.the-variants as codec
+use Rattle.probe.specs.Probe.{syncWord}
 use Rattle.repair.specs.Repair.{crc1Good, crc2Good, Checked, both, second, crcStatusOf, crcTo, crc1For, putWord, withCrc1, clashes, repaired, repairOf}
 
 -- every checksum is good
@@ -55,11 +56,11 @@ pub record MendedAc3 (s : List ℕ) : Type 0 where
   pub crc1-only : (v : ℕ) → v < 2 ^ 16 → crc1Good (putWord s 2 v) ≡ true → v ≡ crc1For s
   -- "A repair that flips ends with crc2 0x8B72", and none ends with 0x0B77
   pub flips : clashes (withCrc1 s) ≡ true → crc2In (repaired codec.Ac3 s) ≡ 0x8B72
-  pub no-sync : crc2In (repaired codec.Ac3 s) ≢ 0x0B77
+  pub no-sync : crc2In (repaired codec.Ac3 s) ≢ syncWord
 
 -- a frame whose checksums are good stays as it is, unless it is an AC-3 frame whose crc2 is 0x0B77
 abbrev pub GoodStays : Codec → List ℕ → Type 0
-GoodStays k s = Bytes s → crcStatusOf k s ≡ taken (allGood k) → (k ≡ codec.Ac3 → crc2In s ≢ 0x0B77) → repaired k s ≡ s
+GoodStays k s = Bytes s → crcStatusOf k s ≡ taken (allGood k) → (k ≡ codec.Ac3 → crc2In s ≢ syncWord) → repaired k s ≡ s
 
 -- "repair changes no byte on refusal", and the refusal is 20
 abbrev pub RefusedStays : Codec → List ℕ → Type 0

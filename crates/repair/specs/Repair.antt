@@ -10,6 +10,7 @@ use Rattle.refusal.specs.Refusals.{Outcome, taken, told, refuseIf, andThen, Ran
 use Rattle.crc.specs.Crc.{crcOf, crc1Of}
 use Rattle.probe.specs.declared.Codec.{Codec}
 use Rattle.probe.specs.declared.Codec.the-variants as codec
+use Rattle.probe.specs.Probe.{syncWord}
 use Rattle.repair.specs.declared.Status.{Status}
 use Rattle.repair.specs.declared.Status.the-variants as status
 
@@ -83,7 +84,7 @@ flipped s = set s (length s - 3) (bitXor (getD s (length s - 3) 0) 1)
 
 -- "If AC-3's crc2 would be 0x0B77, the low bit of byte n-3 is flipped and crc2 recomputed once"
 abbrev pub clashes : List ℕ → Bool
-clashes s = eqb (crcTo (length s - 2) s) 0x0B77
+clashes s = eqb (crcTo (length s - 2) s) syncWord
 
 unfoldable pub settled : List ℕ → List ℕ
 settled s = cond (clashes s) (flipped s) s

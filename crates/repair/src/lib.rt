@@ -22,9 +22,6 @@ pub enum Status {
 // The generator without its top term.
 const POLY: u16 = 0x8005;
 
-// What crc2 must not be, since a decoder would take it for the next frame.
-const SYNC: u16 = 0x0B77;
-
 // A number cleared from its top bit down: what is left of it, the units by whose images it was cleared, and the bit it stopped at.
 struct Reduced {
     left: u16,
@@ -251,13 +248,14 @@ fn sums_of(frame: &[u8]) -> Sums
     Sums { crc1, crc2 }
 }
 
-// crc2 put in place. Where it would be the sync word, the bit before it is turned over, which adds the generator to it.
+// crc2 put in place. Where it would be the sync word, which a decoder would take for the next frame, the bit before it is turned over: that
+// adds the generator to it.
 fn put_crc2(frame: &mut [u8], crc2: u16)
     requires { ⌜ (5 ≤ length (now frame)) × (crc2 ≡ crcTo (length (now frame) - 2) (now frame)) ⌝ }
     ensures { λ _. ⌜ now (frame .exit) ≡ withCrc2 (settled (now (frame .entry))) ⌝ }
 {
     let at = frame.len() - 2;
-    if crc2 == SYNC {
+    if crc2 as u32 == probe::SYNC {
         flip(frame);
         put_word(frame, at, crc2 ^ POLY);
     } else {
