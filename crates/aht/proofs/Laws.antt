@@ -26,7 +26,8 @@ use Rattle.walks.proofs.Laws.{range-says}
 use Rattle.aht.specs.declared.Course.{Course}
 use Rattle.aht.specs.declared.Course.the-variants as course
 use Rattle.aht.specs.declared.Tally.{Tally}
-use Rattle.aht.specs.Aht.{tallied, Walk, placeAt, courseOf, lastOf, tallyOf, heldOf, Held, small, large, readOn, refuseOn, tagOn, reads, times, gaqWidths, gaqWidth, gainedOn, mantissaOn, isActive, digit, meant, gainOf, gainAt, vectorWidths, vectorWidth, binOn, countActive, walkOn, sections, wordWidth, gainBits, compositeOn, wordOn, binsOn, modeOn, told, unfitAht, begun, ahtOf}
+use Rattle.aht.specs.Aht.{tallied, Walk, readOn, refuseOn, tagOn, reads, times, gaqWidths, gaqWidth, gainedOn, mantissaOn, isActive, digit, meant, gainOf, gainAt, vectorWidths, vectorWidth, binOn, countActive, walkOn, sections, compositeOn, wordOn, binsOn, modeOn, told, unfitAht, begun, ahtOf}
+use Rattle.aht.specs.Tallies.{placeAt, courseOf, lastOf, tallyOf, heldOf, Held, small, large, wordWidth, gainBits}
 
 -- 1. What the code holds: a walk that goes on, and one that has stopped.
 

@@ -2,14 +2,13 @@
 -- gaqmod, the gain words, and the mantissas of all six blocks bin by bin. Each step is made on the walk so far; a walk that is refused
 -- stays where it stands.
 -- Assumes nothing.
-use Prim.Native.Nat.{ℕ, zero, suc, _+_, _-_, _*_, _/_, _%_, _^_, _≤_}
+use Prim.Native.Nat.{ℕ, zero, suc, _+_, _-_, _*_, _/_, _%_, _^_}
 use mathlib.Core.Bool.{Bool, false, cond, _&&_, _||_}
 use mathlib.Core.List.{List, [], _∷_}
 use lib.ListN.{length, getD}
 use lib.Seq.{slice}
 use lib.Dec.{eqb, ltb}
-use Rattle.refusal.specs.declared.Why.{Why}
-use Rattle.refusal.specs.Refusals.{numberOf, Outcome, taken, refused, grounds, told as toldAt, andThen, Ran, thenRun}
+use Rattle.refusal.specs.Refusals.{Outcome, taken, refused, grounds, told as toldAt, andThen, Ran, thenRun}
 use Rattle.bits.specs.Bits.{bitsAt}
 use Rattle.syntax.specs.declared.Place.{Place}
 use Rattle.syntax.specs.Reads.{unsound, rawOf}
@@ -17,9 +16,6 @@ use Rattle.walks.specs.Walk.{unfitRange}
 use Rattle.aht.specs.declared.Counted.{Counted}
 use Rattle.aht.specs.declared.Counted.the-variants as counted
 use Rattle.aht.specs.declared.AhtWalked.{AhtWalked}
-use Rattle.aht.specs.declared.Course.{Course}
-use Rattle.aht.specs.declared.Course.the-variants as course
-use Rattle.aht.specs.declared.Tally.{Tally}
 
 -- where a walk stands: the cursor's place, and the tags that it met
 pub record Tallied : Type 0 where
@@ -36,32 +32,6 @@ Walk = Ran Tallied ℕ
 -- a walk that read v last
 abbrev pub going : ℕ → Tallied → Walk
 going v s = record { outcome = taken v; state = s }
-
--- a place at another bit
-abbrev pub placeAt : Place → ℕ → Place
-placeAt p bit = record { pos = bit; limit = p .limit; block = p .block; count = p .count }
-
--- what the code holds of a walk over a frame from place p on: what it read last is the `last` bits before its bit
-abbrev pub courseOf : Course → ℕ → ℕ → Outcome ℕ
-courseOf course.On bit v = taken v
-courseOf (course.Stopped why) bit v = refused (grounds (numberOf why) bit)
-
-abbrev pub lastOf : List ℕ → Tally → Outcome ℕ
-lastOf frame t = courseOf (t .course) (t .pos) (bitsAt frame (t .pos - t .last) (t .last))
-
-abbrev pub tallyOf : List ℕ → Place → Tally → Walk
-tallyOf frame p t = record { outcome = lastOf frame t; state = tallied (placeAt p (t .pos)) (t .tags) }
-
-abbrev pub stoppedOf : Why → Tally → Tally
-stoppedOf why t = record { pos = t .pos; last = t .last; tags = t .tags; course = course.Stopped why }
-
--- where it goes on, those bits are at most 32, and among the first `most`
-abbrev pub heldOf : Course → ℕ → ℕ → ℕ → Type 0
-heldOf course.On bit last most = (last ≤ 32) × (last ≤ bit) × (bit ≤ most)
-heldOf (course.Stopped why) bit last most = Unit {0}
-
-abbrev pub Held : ℕ → Tally → Type 0
-Held most t = heldOf (t .course) (t .pos) (t .last) most
 
 -- 1. Steps.
 
@@ -114,13 +84,6 @@ gainedOn frame s l r =
     cond (reads (λ v. eqb v (2 ^ (s - 1))) (readOn frame s r))
     (tagOn (readOn frame l (readOn frame s r)))
     (readOn frame s r)
-
--- the two widths of a mantissa with a gain, for the code
-abbrev pub small : ℕ → ℕ → ℕ
-small m gain = cond (eqb gain 2) (m - 1) (m - 2)
-
-abbrev pub large : ℕ → ℕ → ℕ
-large m gain = cond (eqb gain 2) (m - 1) m
 
 -- a mantissa of width m: "m; G2: m-1, tag adds m-1; G4: m-2, tag adds m"
 unfoldable pub mantissaOn : List ℕ → ℕ → ℕ → Walk → Walk
@@ -175,13 +138,6 @@ walkOn frame mode base k (h ∷ hs) r = walkOn frame mode base (k + cond (isActi
 abbrev pub sections : ℕ → ℕ → ℕ
 sections mode n = cond (eqb mode 0) 0 (cond (eqb mode 3) ((n + 2) / 3) n)
 
--- and how many bits these have
-abbrev pub wordWidth : ℕ → ℕ
-wordWidth mode = cond (eqb mode 3) 5 1
-
-abbrev pub gainBits : ℕ → ℕ → ℕ
-gainBits mode n = sections mode n * wordWidth mode
-
 -- a composite gain of 5 bits: 14 above 26
 unfoldable pub compositeOn : List ℕ → Walk → Walk
 compositeOn frame r = cond (reads (λ v. ltb 26 v) (readOn frame 5 r)) (refuseOn 14 (readOn frame 5 r)) (readOn frame 5 r)
@@ -198,10 +154,6 @@ binsOn frame mode hs r =
 -- after gaqmod was read
 unfoldable pub modeOn : List ℕ → List ℕ → Walk → Walk
 modeOn frame hs r = thenRun r (λ mode s. binsOn frame mode hs (going mode s))
-
--- six tags a bin at most, in 256 bins
-abbrev pub tagsMost : ℕ
-tagsMost = 6 * 256
 
 -- what an answer means, with the place after it
 abbrev pub endedOf : Counted → Outcome ℕ

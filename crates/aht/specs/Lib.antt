@@ -1,1 +1,2 @@
 pub mod Aht
+pub mod Tallies

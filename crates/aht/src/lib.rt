@@ -20,7 +20,8 @@ ghost use Rattle.refusal.specs.Refusals.{numberOf};
 ghost use Rattle.bits.specs.Bits.{bitsAt};
 ghost use Rattle.syntax.specs.declared.Place.{Place};
 ghost use Rattle.syntax.specs.Reads.{unsound};
-ghost use Rattle.aht.specs.Aht.{placeAt, stoppedOf, lastOf, tallyOf, Held, tagsMost, passes as passed, small, large, readOn, refuseOn, tagOn, gainedOn, mantissaOn, times, vectorWidth, gaqWidth, isActive, countActive, sections, compositeOn, wordOn, gainBits, binsOn, digit, meant, gainOf, gainAt, binOn, walkOn, modeOn, told, countedOf, unfitAht, ahtOf};
+ghost use Rattle.aht.specs.Aht.{passes as passed, readOn, refuseOn, tagOn, gainedOn, mantissaOn, times, vectorWidth, gaqWidth, isActive, countActive, sections, compositeOn, wordOn, binsOn, digit, meant, gainOf, gainAt, binOn, walkOn, modeOn, told, countedOf, unfitAht, ahtOf};
+ghost use Rattle.aht.specs.Tallies.{placeAt, stoppedOf, lastOf, tallyOf, Held, tagsMost, small, large, gainBits};
 
 // How an AHT walk ends: the tags of large mantissas that it met, or a refusal.
 pub enum Counted {

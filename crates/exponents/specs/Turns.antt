@@ -1,5 +1,5 @@
--- What the code holds on its way, for the contracts of the private functions: the last result, the bin of the next, and the bins. A
--- group at a time it comes to the same as all groups at once (`proofs/Turns.antt`).
+-- What the code holds on its way: the last result, the bin of the next, and the bins. These follow the steps of private functions: no public
+-- contract cites them. A group at a time it comes to the same as all groups at once (`proofs/Turns.antt`).
 -- Assumes nothing.
 use Prim.Native.Nat.{ℕ, zero, suc, _+_, _-_, _*_}
 use mathlib.Core.List.{List, [], _∷_}

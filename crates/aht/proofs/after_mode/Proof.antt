@@ -6,7 +6,8 @@ use lib.ListN.{length}
 use lib.Seq.{slice}
 use denote.Ref.{now}
 use Rattle.syntax.proofs.Tests.{sound-limit}
-use Rattle.aht.specs.Aht.{Walk, tallyOf, times, wordOn, countActive, sections, gainBits}
+use Rattle.aht.specs.Aht.{Walk, times, wordOn, countActive, sections}
+use Rattle.aht.specs.Tallies.{tallyOf, gainBits}
 use Rattle.aht.proofs.Laws.{goes-on, has-stopped, words-stay, words-on, words-moved, words-tags, moved-inside}
 use borrow.Author.Needs.{needs}
 use native.Mathlib.Omega.{arith}

@@ -5,7 +5,8 @@ use mathlib.Core.Path.{_∙_, sym, ap}
 use lib.ListN.{length}
 use denote.Ref.{now}
 use Rattle.syntax.proofs.Tests.{sound-limit}
-use Rattle.aht.specs.Aht.{tallyOf, refuseOn}
+use Rattle.aht.specs.Aht.{refuseOn}
+use Rattle.aht.specs.Tallies.{tallyOf}
 use Rattle.aht.proofs.Laws.{held-less, composite-above, composite-fine}
 use borrow.Author.Needs.{needs}
 use native.Mathlib.Omega.{arith}

@@ -5,7 +5,8 @@ use mathlib.Core.Path.{_∙_, sym, ap}
 use lib.ListN.{length}
 use denote.Ref.{now}
 use Rattle.syntax.proofs.Tests.{sound-limit}
-use Rattle.aht.specs.Aht.{Walk, tallyOf, tagOn}
+use Rattle.aht.specs.Aht.{Walk, tagOn}
+use Rattle.aht.specs.Tallies.{tallyOf}
 use Rattle.aht.proofs.Laws.{held-less, read-tags, gained-tag, gained-small}
 use borrow.Author.Needs.{needs}
 use native.Mathlib.Omega.{arith}

@@ -3,7 +3,8 @@
 use Prim.Native.Nat.{ℕ}
 use mathlib.Core.Path.{_∙_, ap}
 use denote.Ref.{now}
-use Rattle.aht.specs.Aht.{tallyOf, small, gainedOn}
+use Rattle.aht.specs.Aht.{gainedOn}
+use Rattle.aht.specs.Tallies.{tallyOf, small}
 use Rattle.aht.proofs.Laws.{mantissa-plain, mantissa-gained}
 use borrow.Author.Needs.{needs}
 use native.Mathlib.Omega.{arith}

@@ -3,7 +3,8 @@
 use Prim.Native.Nat.{ℕ}
 use mathlib.Core.Path.{_∙_, ap}
 use denote.Ref.{now}
-use Rattle.aht.specs.Aht.{tallyOf, readOn, times, mantissaOn, gaqWidth}
+use Rattle.aht.specs.Aht.{readOn, times, mantissaOn, gaqWidth}
+use Rattle.aht.specs.Tallies.{tallyOf}
 use Rattle.aht.proofs.Laws.{vector-bound, bin-none, bin-vector, bin-above, bin-six}
 use borrow.Author.Needs.{needs}
 use native.Mathlib.Omega.{arith}

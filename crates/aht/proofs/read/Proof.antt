@@ -6,7 +6,7 @@ use lib.Dec.{ltb}
 use borrow.Author.Tests.{ltb-false}
 use Rattle.syntax.specs.declared.Place.{Place}
 use Rattle.aht.specs.declared.Tally.{Tally}
-use Rattle.aht.specs.Aht.{tallyOf}
+use Rattle.aht.specs.Tallies.{tallyOf}
 use Rattle.aht.proofs.Laws.{has-stopped, held-stopped, read-stays, read-past, read-within}
 use borrow.Author.Needs.{needs}
 use native.Mathlib.Omega.{arith}

@@ -2,7 +2,7 @@
 -- Assumes nothing.
 use mathlib.Core.Path.{_∙_, ap}
 use Rattle.refusal.specs.Refusals.{numberOf}
-use Rattle.aht.specs.Aht.{tallyOf}
+use Rattle.aht.specs.Tallies.{tallyOf}
 use Rattle.aht.proofs.Laws.{goes-on, has-stopped, refuse-stays, refuse-on}
 use borrow.Author.Needs.{needs}
 use Rattle.aht.proofs.refuse.Statement.{statement}

@@ -3,7 +3,8 @@
 use Prim.Native.Nat.{ℕ, _+_, _-_, _≤_}
 use mathlib.Core.Path.{_≡_, _∙_, ap}
 use denote.Ref.{now}
-use Rattle.aht.specs.Aht.{Walk, tallyOf, tagsMost, times, mantissaOn}
+use Rattle.aht.specs.Aht.{Walk, times, mantissaOn}
+use Rattle.aht.specs.Tallies.{tallyOf, tagsMost}
 use Rattle.aht.proofs.Laws.{times-none, times-again, mantissa-tags}
 use borrow.Author.Needs.{needs}
 use native.Mathlib.Omega.{arith}

@@ -2,7 +2,8 @@
 -- Assumes nothing.
 use Prim.Native.Nat.{_+_}
 use mathlib.Core.Path.{_∙_, sym, ap}
-use Rattle.aht.specs.Aht.{Walk, tallied, placeAt, tallyOf}
+use Rattle.aht.specs.Aht.{Walk, tallied}
+use Rattle.aht.specs.Tallies.{placeAt, tallyOf}
 use Rattle.aht.proofs.Laws.{goes-on, has-stopped, tag-stays, tag-on}
 use borrow.Author.Needs.{needs}
 use native.Mathlib.Omega.{arith}

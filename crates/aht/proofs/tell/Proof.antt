@@ -4,7 +4,7 @@ use Prim.Native.Nat.{ℕ}
 use mathlib.Core.Path.{_∙_, ap}
 use Rattle.refusal.specs.Refusals.{taken, refused, grounds, numberOf, Ran}
 use Rattle.syntax.specs.declared.Place.{Place}
-use Rattle.aht.specs.Aht.{tallyOf}
+use Rattle.aht.specs.Tallies.{tallyOf}
 use Rattle.aht.proofs.Laws.{goes-on, has-stopped, told-on, told-stays}
 use borrow.Author.Needs.{needs}
 use Rattle.aht.proofs.tell.Statement.{statement}

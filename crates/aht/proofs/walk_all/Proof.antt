@@ -7,7 +7,8 @@ use lib.Seq.{slice}
 use denote.Ref.{now}
 use Rattle.bits.specs.Bits.{bitsAt}
 use Rattle.syntax.proofs.Tests.{sound-limit}
-use Rattle.aht.specs.Aht.{Walk, tallyOf, modeOn, binsOn}
+use Rattle.aht.specs.Aht.{Walk, modeOn, binsOn}
+use Rattle.aht.specs.Tallies.{tallyOf}
 use Rattle.aht.proofs.Laws.{goes-on, has-stopped, held-on, held-less, read-tags, ReadOn, read-moved, mode-stays, mode-on}
 use borrow.Author.Needs.{needs}
 use native.Mathlib.Omega.{arith}

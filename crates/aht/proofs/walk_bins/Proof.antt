@@ -8,7 +8,8 @@ use denote.Ref.{now}
 use lib.ListN.{length, getD}
 use lib.Seq.{slice}
 use native.Mathlib.Nat.{zero-add}
-use Rattle.aht.specs.Aht.{Walk, tallyOf, isActive, countActive, gainBits, walkOn}
+use Rattle.aht.specs.Aht.{Walk, isActive, countActive, walkOn}
+use Rattle.aht.specs.Tallies.{tallyOf, gainBits}
 use Rattle.aht.proofs.Laws.{bin-tags, count-turn, walk-turn, walk-none, one-more, inside-less}
 use borrow.Author.Needs.{needs}
 use Rattle.aht.proofs.walk_bins.Statement.{statement}

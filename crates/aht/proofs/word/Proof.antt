@@ -2,7 +2,7 @@
 -- Assumes nothing.
 use mathlib.Core.Path.{_∙_}
 use denote.Ref.{now}
-use Rattle.aht.specs.Aht.{tallyOf}
+use Rattle.aht.specs.Tallies.{tallyOf}
 use Rattle.aht.proofs.Laws.{word-three, word-one}
 use borrow.Author.Needs.{needs}
 use native.Mathlib.Omega.{arith}

@@ -3,7 +3,8 @@
 use Prim.Native.Nat.{ℕ, _-_, _≤_}
 use mathlib.Core.Path.{_≡_, _∙_, ap}
 use denote.Ref.{now}
-use Rattle.aht.specs.Aht.{tallyOf, times, wordOn}
+use Rattle.aht.specs.Aht.{times, wordOn}
+use Rattle.aht.specs.Tallies.{tallyOf}
 use Rattle.aht.proofs.Laws.{times-none, times-again}
 use borrow.Author.Needs.{needs}
 use native.Mathlib.Omega.{arith}
