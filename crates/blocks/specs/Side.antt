@@ -11,6 +11,7 @@ use Rattle.refusal.specs.Refusals.{Outcome, taken, refused, refuseIf, andThen, 
 use Rattle.bits.specs.Answers.{doneOf}
 use Rattle.syntax.specs.declared.Ask.{Ask}
 use Rattle.syntax.specs.declared.Role.the-variants as role
+use Rattle.syntax.specs.Names as names
 use Rattle.syntax.specs.Reads.{Standing, standing, readerOf, readOf}
 use Rattle.tables.specs.declared.Delta.{Delta}
 use Rattle.blocks.specs.declared.AllocState.{AllocState}
@@ -55,22 +56,22 @@ deltaCodeOf st slot code block0 =
     (refuseIf (badCode code block0) 15 0
     (taken tt)))
 
--- an element of a slot's segments, logged with the slot for its index; coupling has names of its own (`syntax`, src/names.rt)
+-- an element of a slot's segments, logged with the slot for its index; coupling has names of its own
 abbrev pub fieldAsk : ℕ → ℕ → ℕ → ℕ → Ask
 fieldAsk name cplName width slot = record { name = cond (eqb slot 5) cplName name; role = role.Plain; index = pos slot; width = width }
 
 -- deltnseg, deltoffst, deltlen, deltba: 3, 5, 4, 3 bits
 abbrev pub nsegAsk : ℕ → Ask
-nsegAsk slot = fieldAsk 16 20 3 slot
+nsegAsk slot = fieldAsk names.deltnseg names.cpldeltnseg 3 slot
 
 abbrev pub offstAsk : ℕ → Ask
-offstAsk slot = fieldAsk 17 21 5 slot
+offstAsk slot = fieldAsk names.deltoffst names.cpldeltoffst 5 slot
 
 abbrev pub lenAsk : ℕ → Ask
-lenAsk slot = fieldAsk 18 22 4 slot
+lenAsk slot = fieldAsk names.deltlen names.cpldeltlen 4 slot
 
 abbrev pub baAsk : ℕ → Ask
-baAsk slot = fieldAsk 19 23 3 slot
+baAsk slot = fieldAsk names.deltba names.cpldeltba 3 slot
 
 -- one segment more
 abbrev pub withSegment : Delta → ℕ → ℕ → ℕ → Delta

@@ -11,6 +11,7 @@ use Rattle.refusal.specs.Refusals.{Outcome, taken, refused, refuseIf, andThen, 
 use Rattle.bits.specs.Answers.{doneOf}
 use Rattle.syntax.specs.declared.Role.the-variants.{Plain}
 use Rattle.syntax.specs.declared.Ask.{Ask}
+use Rattle.syntax.specs.Names as names
 use Rattle.syntax.specs.Reads.{Standing, standing, readOf}
 use Rattle.exponents.specs.declared.ExpSet.{ExpSet}
 use Rattle.exponents.specs.declared.Exponents.{Exponents}
@@ -40,12 +41,12 @@ abbrev pub askOf : ℕ → ℕ → ℕ → ℕ → ℕ → Ask
 askOf slot full coupling lfe width =
     record { name = bySlot slot full coupling lfe; role = Plain; index = pos (bySlot slot slot 0 0); width = width }
 
--- the absolute exponent, and a group, by the numbers of their names in `syntax`
+-- the absolute exponent, 4 bits, and a group, 7 bits
 abbrev pub absAsk : ℕ → Ask
-absAsk slot = askOf slot 1 3 5 4
+absAsk slot = askOf slot names.absexp names.cplabsexp names.lfeabsexp 4
 
 abbrev pub groupAsk : ℕ → Ask
-groupAsk slot = askOf slot 2 4 6 7
+groupAsk slot = askOf slot names.exps names.cplexps names.lfeexps 7
 
 -- the groups vs and one more, from the exponent e on: it is read; then 7, "grouped exponent above 124", and 8, "exponent outside 0..24"
 unfoldable pub groupOf : List ℕ → Ask → ℕ → List ℕ → Standing → Ran Standing (List ℕ)

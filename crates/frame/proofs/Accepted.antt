@@ -13,6 +13,7 @@ use Rattle.bits.specs.Bits.{bitsAt}
 use Rattle.syntax.specs.declared.Ask.{Ask}
 use Rattle.syntax.specs.declared.Role.{Role}
 use Rattle.syntax.specs.declared.Role.the-variants.{AuxBits, AuxDataL, AuxDataE, CrcRsv, Crc2}
+use Rattle.syntax.specs.Names as names
 use Rattle.syntax.specs.Reads.{Standing, standing, room, readOf, spanOf}
 use Rattle.syntax.specs.Tiling.{Reached, Reaches}
 use Rattle.syntax.proofs.Tests.{Free}
@@ -111,17 +112,17 @@ module _ (frame : List ℕ) (limit words : ℕ) (short : limit ≤ 32768) (held 
   length-takes true width x n st s h l w =
       let e : x + 14 ≡ x + 32 - 18 = omega arith in
       subst (λ (y : ℕ). Takes (bitsAt frame x 14) y (n + 1) (lengthOf frame true width st)) e
-      (then-takes (readOf frame st (tailAsk 33 AuxDataL 14)) _ (read-takes x n (tailAsk 33 AuxDataL 14) st s (omega arith) (omega arith) l)
+      (then-takes (readOf frame st (tailAsk names.auxdatal AuxDataL 14)) _ (read-takes x n (tailAsk names.auxdatal AuxDataL 14) st s (omega arith) (omega arith) l)
       (λ t k. record { takes = rw (le-ltb width (bitsAt frame x 14) w); stands = k }))
 
   last-takes : (codec : Codec) (x n : ℕ) (st : Standing) → Stands x n st → x + 18 ≤ limit → n + 3 ≤ room words
       → Takes (bitsAt frame (x + 1 + 1) 16) (x + 1 + 1 + 16) (n + 1 + 1 + 1) (lastOf frame codec st)
   unfolding lastOf
   last-takes codec x n st s h l =
-      then-takes (readOf frame st (tailAsk 34 AuxDataE 1)) _ (read-takes x n (tailAsk 34 AuxDataE 1) st s (omega arith) (omega arith) (omega arith)) (λ t k.
+      then-takes (readOf frame st (tailAsk names.auxdatae AuxDataE 1)) _ (read-takes x n (tailAsk names.auxdatae AuxDataE 1) st s (omega arith) (omega arith) (omega arith)) (λ t k.
       then-takes (readOf frame t (tailAsk (reservedName codec) CrcRsv 1)) _
       (read-takes (x + 1) (n + 1) (tailAsk (reservedName codec) CrcRsv 1) t k (omega arith) (omega arith) (omega arith)) (λ u m.
-      read-takes (x + 1 + 1) (n + 1 + 1) (tailAsk 37 Crc2 16) u m (omega arith) (omega arith) (omega arith)))
+      read-takes (x + 1 + 1) (n + 1 + 1) (tailAsk names.crc2 Crc2 16) u m (omega arith) (omega arith) (omega arith)))
 
   tiles-takes : (total : ℕ) (user : Stretch) (n : ℕ) (st : Standing) → Stands total n st → n ≤ room words → Takes user total n (tilesOf total user st)
   unfolding tilesOf
@@ -153,7 +154,7 @@ module _ (frame : List ℕ) (limit words : ℕ) (short : limit ≤ 32768) (held 
       let v : cond aux (bitsAt frame (x + width) 14) 0 ≡ auxdatal frame total = length-at aux x total f in
       let b = behind-least aux in
       let e : x + width + behind aux - 18 + 1 + 1 + 16 ≡ total = omega (arith, f, b) in
-      then-takes (spanOf (length frame) st 32 AuxBits width) _ (span-takes x n 32 AuxBits width st s (omega (arith, h, f)) (omega (arith, l))) (λ t k.
+      then-takes (spanOf (length frame) st names.auxbits AuxBits width) _ (span-takes x n names.auxbits AuxBits width st s (omega (arith, h, f)) (omega (arith, l))) (λ t k.
       then-takes (lengthOf frame aux width t) _
       (subst (λ (y : ℕ). Takes y (x + width + behind aux - 18) (n + 1 + 1) (lengthOf frame aux width t)) v
       (length-takes aux width (x + width) (n + 1) t k (omega (arith, h, f)) (omega (arith, l)) (subst (λ (y : ℕ). y ≤ width) (sym v) w))) (λ u m.

@@ -18,6 +18,7 @@ use Rattle.syntax.specs.declared.Place.{Place}
 use Rattle.syntax.specs.declared.Reader.{Reader}
 use Rattle.syntax.specs.declared.Moved.{Moved}
 use Rattle.syntax.specs.declared.Role.the-variants.{AuxBits, AuxDataL, AuxDataE, CrcRsv, Crc2}
+use Rattle.syntax.specs.Names as names
 use Rattle.syntax.specs.Reads.{Standing, standing, movedOf, seenOf, shown, readerOf, readOf, spanOf, nextOf}
 use Rattle.syntax.specs.Tiling.{tilingOf}
 use Rattle.syntax.proofs.Ends.{reader-is}
@@ -56,7 +57,7 @@ shows-none (put.Refused r) v z = z
 
 -- auxdatal, with the reader after it
 module _ (frame : List ℕ) (width : ℕ) (q : Ran Standing ℕ) (read : Reader) (log : List ℕ)
-    (n : readerOf read log ≡ nextOf frame (tailAsk 33 AuxDataL 14) q) (s : read .value ≡ shown (seenOf (read .answer) (read .value))) where
+    (n : readerOf read log ≡ nextOf frame (tailAsk names.auxdatal AuxDataL 14) q) (s : read .value ≡ shown (seenOf (read .answer) (read .value))) where
   abbrev here : Standing
   here = standing (read .place) log
 
@@ -65,7 +66,7 @@ module _ (frame : List ℕ) (width : ℕ) (q : Ran Standing ℕ) (read : Reader)
 
   length-is : thenRun (readerOf read log) measured ≡ thenRun q (λ _ st. lengthOf frame true width st)
   unfolding nextOf
-  length-is = ap (λ (x : Ran Standing ℕ). thenRun x measured) n ∙ then-then q (λ _ st. readOf frame st (tailAsk 33 AuxDataL 14)) measured
+  length-is = ap (λ (x : Ran Standing ℕ). thenRun x measured) n ∙ then-then q (λ _ st. readOf frame st (tailAsk names.auxdatal AuxDataL 14)) measured
 
   -- it exceeds auxbits: it has been read, so its reader was not refused
   pub length-exceeds : width < read .value → (x : Reader) → x .place ≡ read .place → doneOf (x .answer) ≡ refused (grounds 17 (read .place .pos))
@@ -89,14 +90,14 @@ pub shows-refused : (a : Put) {g : Grounds} → doneOf a ≡ refused g → 0 ≡
 shows-refused a e = sym (ap shown (seen-refused a 0 e))
 
 -- auxdatae, the reserved bit, crc2
-pub last-is : (frame : List ℕ) (codec : Codec) (r a b c : Ran Standing ℕ) → a ≡ nextOf frame (tailAsk 34 AuxDataE 1) r
-    → b ≡ nextOf frame (tailAsk (reservedName codec) CrcRsv 1) a → c ≡ nextOf frame (tailAsk 37 Crc2 16) b
+pub last-is : (frame : List ℕ) (codec : Codec) (r a b c : Ran Standing ℕ) → a ≡ nextOf frame (tailAsk names.auxdatae AuxDataE 1) r
+    → b ≡ nextOf frame (tailAsk (reservedName codec) CrcRsv 1) a → c ≡ nextOf frame (tailAsk names.crc2 Crc2 16) b
     → c ≡ thenRun r (λ _ st. lastOf frame codec st)
 unfolding lastOf nextOf
 last-is frame codec r a b c p q s =
-    let one : ℕ → Standing → Ran Standing ℕ = λ _ st. readOf frame st (tailAsk 34 AuxDataE 1) in
+    let one : ℕ → Standing → Ran Standing ℕ = λ _ st. readOf frame st (tailAsk names.auxdatae AuxDataE 1) in
     let two : ℕ → Standing → Ran Standing ℕ = λ _ st. readOf frame st (tailAsk (reservedName codec) CrcRsv 1) in
-    let three : ℕ → Standing → Ran Standing ℕ = λ _ st. readOf frame st (tailAsk 37 Crc2 16) in
+    let three : ℕ → Standing → Ran Standing ℕ = λ _ st. readOf frame st (tailAsk names.crc2 Crc2 16) in
     s
     ∙ ap (λ (x : Ran Standing ℕ). thenRun x three) q
     ∙ ap (λ (x : Ran Standing ℕ). thenRun (thenRun x two) three) p
@@ -126,7 +127,7 @@ module _ (total : ℕ) (user : Stretch) (reader : Reader) (log : List ℕ) where
 
 -- all the steps together
 pub elements-are : (frame : List ℕ) (total : ℕ) (codec : Codec) (st : Standing) {has : Bool} → has ≡ hasAux frame total
-    → {n : ℕ} → n ≡ behind has → (m : Ran Standing Unit) → m ≡ spanOf (length frame) st 32 AuxBits (total - n - st .place .pos)
+    → {n : ℕ} → n ≡ behind has → (m : Ran Standing Unit) → m ≡ spanOf (length frame) st names.auxbits AuxBits (total - n - st .place .pos)
     → (b : Ran Standing ℕ) → b ≡ thenRun m (λ _ s. ends s (taken 0))
     → (l : Ran Standing ℕ) → l ≡ thenRun b (λ _ s. lengthOf frame has (total - n - st .place .pos) s)
     → (z : Ran Standing ℕ) → z ≡ thenRun l (λ _ s. lastOf frame codec s) → (user : Stretch)

@@ -15,6 +15,7 @@ use Rattle.refusal.proofs.Laws.{never}
 use Rattle.syntax.specs.declared.Ask.{Ask}
 use Rattle.syntax.specs.declared.Role.{Role}
 use Rattle.syntax.specs.declared.Role.the-variants.{AuxBits, AuxDataL, AuxDataE, CrcRsv, Crc2}
+use Rattle.syntax.specs.Names as names
 use Rattle.syntax.specs.Reads.{Standing, standing, room, readOf, spanOf}
 use Rattle.syntax.specs.Tiling.{tiles, tilingOf, Reached}
 use Rattle.syntax.proofs.Tests.{Told, told-first}
@@ -53,7 +54,7 @@ tiles-accepts total user st u e = go (tilingOf (st .log) (st .place .count) tota
 elements-accepts : (frame : List ℕ) (total : ℕ) (codec : Codec) (st : Standing) → Accepts total (elementsOf frame total codec st)
 unfolding elementsOf
 elements-accepts frame total codec st =
-    then-accepts total (spanOf (length frame) st 32 AuxBits _) _ (λ _ s.
+    then-accepts total (spanOf (length frame) st names.auxbits AuxBits _) _ (λ _ s.
     then-accepts total (lengthOf frame (hasAux frame total) _ s) _ (λ l t.
     then-accepts total (lastOf frame codec t) _ (λ _ u.
     tiles-accepts total _ u)))
@@ -118,7 +119,7 @@ length-leads frame false width x st h =
 length-leads frame true width x st h =
     let e : x + 14 ≡ x + 32 - 18 = omega arith in
     subst (λ (n : ℕ). Leads n (lengthOf frame true width st)) e
-    (then-leads (x + 14) (x + 14) (readOf frame st (tailAsk 33 AuxDataL 14)) _ (read-leads frame x (tailAsk 33 AuxDataL 14) st h)
+    (then-leads (x + 14) (x + 14) (readOf frame st (tailAsk names.auxdatal AuxDataL 14)) _ (read-leads frame x (tailAsk names.auxdatal AuxDataL 14) st h)
     (λ l s k. go (ltb width l) l s k))
   where
     go : (test : Bool) (l : ℕ) (s : Standing) → At (x + 14) s → Leads (x + 14) (ends s (cond test (refused (grounds 17 (s .place .pos))) (taken l)))
@@ -128,9 +129,9 @@ length-leads frame true width x st h =
 last-leads : (frame : List ℕ) (codec : Codec) (x : ℕ) (st : Standing) → At x st → Leads (x + 1 + 1 + 16) (lastOf frame codec st)
 unfolding lastOf
 last-leads frame codec x st h =
-    then-leads (x + 1) (x + 1 + 1 + 16) (readOf frame st (tailAsk 34 AuxDataE 1)) _ (read-leads frame x (tailAsk 34 AuxDataE 1) st h) (λ _ s k.
+    then-leads (x + 1) (x + 1 + 1 + 16) (readOf frame st (tailAsk names.auxdatae AuxDataE 1)) _ (read-leads frame x (tailAsk names.auxdatae AuxDataE 1) st h) (λ _ s k.
     then-leads (x + 1 + 1) (x + 1 + 1 + 16) (readOf frame s (tailAsk (reservedName codec) CrcRsv 1)) _ (read-leads frame (x + 1) (tailAsk (reservedName codec) CrcRsv 1) s k) (λ _ t m.
-    read-leads frame (x + 1 + 1) (tailAsk 37 Crc2 16) t m))
+    read-leads frame (x + 1 + 1) (tailAsk names.crc2 Crc2 16) t m))
 
 -- the test for 18, where the log tiles the total: only a count past the room is left
 tiles-fine : (total : ℕ) (user : Stretch) (st : Standing) → At total st → Leads total (tilesOf total user st)
@@ -157,8 +158,8 @@ elements-fine frame total codec st h f =
     let pos = st .place .pos in
     let width = total - behind aux - pos in
     let e : pos + width + behind aux - 18 + 1 + 1 + 16 ≡ total = omega (arith, f, behind-least aux) in
-    then-leads (pos + width) total (spanOf (length frame) st 32 AuxBits width) _
-    (span-leads (length frame) 32 AuxBits width pos st (record { reached = h; here = refl })) (λ _ s k.
+    then-leads (pos + width) total (spanOf (length frame) st names.auxbits AuxBits width) _
+    (span-leads (length frame) names.auxbits AuxBits width pos st (record { reached = h; here = refl })) (λ _ s k.
     then-leads (pos + width + behind aux - 18) total (lengthOf frame aux width s) _ (length-leads frame aux width (pos + width) s k) (λ l t m.
     then-leads total total (lastOf frame codec t) _
     (subst (λ (n : ℕ). Leads n (lastOf frame codec t)) e (last-leads frame codec (pos + width + behind aux - 18) t m)) (λ _ u q.

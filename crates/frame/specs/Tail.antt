@@ -13,6 +13,7 @@ use Rattle.syntax.specs.declared.Role.{Role}
 use Rattle.syntax.specs.declared.Role.the-variants.{AuxBits, AuxDataL, AuxDataE, CrcRsv, Crc2}
 use Rattle.syntax.specs.declared.Place.{Place}
 use Rattle.syntax.specs.declared.Ask.{Ask}
+use Rattle.syntax.specs.Names as names
 use Rattle.syntax.specs.Reads.{Standing, standing, room, unsound, readOf, spanOf}
 use Rattle.syntax.specs.Tiling.{tilingOf}
 use Rattle.probe.specs.declared.Codec.{Codec}
@@ -66,24 +67,24 @@ userBits aux n = record { start = aux .start; width = n }
 abbrev pub tailAsk : ℕ → Role → ℕ → Ask
 tailAsk name role width = record { name = name; role = role; index = negsuc 0; width = width }
 
--- the reserved bit is crcrsv in AC-3 and encinfo in E-AC-3 (the numbers of the names are those of `syntax`)
+-- the reserved bit is crcrsv in AC-3 and encinfo in E-AC-3
 abbrev pub reservedName : Codec → ℕ
-reservedName Ac3 = 35
-reservedName Eac3 = 36
+reservedName Ac3 = names.crcrsv
+reservedName Eac3 = names.encinfo
 
 -- "auxdatal (17 if above auxbits' width)", where auxdatae is 1; else none: 0
 abbrev pub lengthOf : List ℕ → Bool → ℕ → Standing → Ran Standing ℕ
 lengthOf frame false width st = ends st (taken 0)
 lengthOf frame true width st =
-    thenRun (readOf frame st (tailAsk 33 AuxDataL 14)) (λ l st₁.
+    thenRun (readOf frame st (tailAsk names.auxdatal AuxDataL 14)) (λ l st₁.
     ends st₁ (refuseIf (ltb width l) 17 (st₁ .place .pos) (taken l)))
 
 -- "auxdatae, the reserved bit, crc2"
 unfoldable pub lastOf : List ℕ → Codec → Standing → Ran Standing ℕ
 lastOf frame codec st =
-    thenRun (readOf frame st (tailAsk 34 AuxDataE 1)) (λ _ st₁.
+    thenRun (readOf frame st (tailAsk names.auxdatae AuxDataE 1)) (λ _ st₁.
     thenRun (readOf frame st₁ (tailAsk (reservedName codec) CrcRsv 1)) (λ _ st₂.
-    readOf frame st₂ (tailAsk 37 Crc2 16)))
+    readOf frame st₂ (tailAsk names.crc2 Crc2 16)))
 
 -- "last, 18", at bit total; else the answer
 unfoldable pub tilesOf : ℕ → Stretch → Standing → Ran Standing Stretch
@@ -94,7 +95,7 @@ unfoldable pub elementsOf : List ℕ → ℕ → Codec → Standing → Ran Stan
 elementsOf frame total codec st =
     let aux = hasAux frame total in
     let bits = auxbits (st .place .pos) total aux in
-    thenRun (spanOf (length frame) st 32 AuxBits (bits .width)) (λ _ st₁.
+    thenRun (spanOf (length frame) st names.auxbits AuxBits (bits .width)) (λ _ st₁.
     thenRun (lengthOf frame aux (bits .width) st₁) (λ l st₂.
     thenRun (lastOf frame codec st₂) (λ _ st₃.
     tilesOf total (userBits bits l) st₃)))

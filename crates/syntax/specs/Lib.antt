@@ -1,4 +1,5 @@
 pub mod Elements
+pub mod Names
 pub mod Reads
 pub mod Cursors
 pub mod Tiling
