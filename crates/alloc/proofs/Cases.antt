@@ -18,8 +18,9 @@ use Rattle.alloc.specs.declared.Carried.{Carried}
 use Rattle.alloc.specs.Params.{curveOf, levelsOf, startOf}
 use Rattle.tables.specs.Pointers.{tableOf}
 use Rattle.alloc.specs.Channel.{pointersOf}
+use Rattle.tables.specs.Bands.{zeros}
 use Rattle.tables.specs.Fits.{upto, lentFits, tablesFit, deltaFits}
-use Rattle.alloc.specs.Answers.{zeros, channelOf, filled, allocateOf}
+use Rattle.alloc.specs.Answers.{channelOf, filled, allocateOf}
 use Rattle.refusal.proofs.TestLaws.{and-left, and-right}
 
 -- a channel whose parameters are decoded

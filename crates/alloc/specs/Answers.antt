@@ -5,7 +5,6 @@ use Prim.Native.Nat.{ℕ, _-_}
 use mathlib.Core.List.{List}
 use mathlib.Core.Bool.{cond, not}
 use lib.Dec.{ltb, leb}
-use lib.ListN.{replicate}
 use Rattle.refusal.specs.Refusals.{Outcome, taken, refused, told, refuseIf, andThen, Ran}
 use Rattle.alloc.specs.declared.Ended.{Ended}
 use Rattle.alloc.specs.declared.Ended.the-variants as ended
@@ -17,6 +16,7 @@ use Rattle.tables.specs.declared.Pointers.{Pointers}
 use Rattle.alloc.specs.declared.Curve.{Curve}
 use Rattle.alloc.specs.declared.Carried.{Carried}
 use Rattle.alloc.specs.declared.Levels.{Levels}
+use Rattle.tables.specs.Bands.{zeros}
 use Rattle.tables.specs.Fits.{upto, tablesFit, deltaFits}
 use Rattle.tables.specs.Pointers.{tableOf}
 use Rattle.alloc.specs.Params.{curveOf, levelsOf, startOf}
@@ -30,10 +30,6 @@ endedOf (ended.Refused r) = told r
 -- with the pointers beside it
 abbrev pub allocatedOf : Allocated → Ran (List ℕ) Unit
 allocatedOf r = record { outcome = endedOf (r .answer); state = r .bap }
-
--- 256 bins, all zero
-abbrev pub zeros : List ℕ
-zeros = replicate 256 0
 
 -- a channel with its parameters decoded: the empty range, 6, 8, and the pointers
 unfoldable pub channelOf : List ℕ → ℕ → ℕ → Curve → Levels → Carried → Delta → Pointers → List ℕ → List ℕ → Outcome (List ℕ)

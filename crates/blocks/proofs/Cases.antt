@@ -14,13 +14,14 @@ use Rattle.bits.specs.declared.Put.{Put}
 use Rattle.bits.specs.Answers.{doneOf}
 use Rattle.tables.specs.declared.Delta.{Delta}
 use Rattle.tables.specs.declared.Pointers.{Pointers}
+use Rattle.tables.specs.Bands.{zeros}
 use Rattle.tables.specs.Fits.{tablesFit}
 use Rattle.alloc.specs.declared.Codes.{Codes}
 use Rattle.alloc.specs.declared.Leak.{Leak}
 use Rattle.alloc.specs.declared.Ended.{Ended}
 use Rattle.alloc.specs.declared.Ended.the-variants as ended
 use Rattle.alloc.specs.declared.Allocated.{Allocated as Allocated₁}
-use Rattle.alloc.specs.Answers.{zeros, filled, endedOf, allocatedOf, allocateOf}
+use Rattle.alloc.specs.Answers.{filled, endedOf, allocatedOf, allocateOf}
 use Rattle.blocks.specs.declared.AllocState.{AllocState}
 use Rattle.blocks.specs.declared.Slot.{Slot}
 use Rattle.blocks.specs.declared.Channel.{Channel}

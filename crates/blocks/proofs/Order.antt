@@ -13,6 +13,7 @@ use Rattle.refusal.specs.Refusals.{Outcome, taken, refused, refuseIf, Ran, then
 use Rattle.tables.specs.declared.Delta.{Delta}
 use Rattle.tables.specs.declared.Pointers.{Pointers}
 use Rattle.tables.specs.Codes.{codeAt, slowDecay, fastDecay, slowGain, kneeTable, floorTable, fastGain, leakOf, snrOffset, fineOf, snrOf}
+use Rattle.tables.specs.Bands.{zeros}
 use Rattle.tables.specs.Fits.{upto, tablesFit, deltaFits}
 use Rattle.tables.specs.Pointers.{tableOf}
 use Rattle.refusal.proofs.TestLaws.{and-left, and-right}
@@ -22,7 +23,7 @@ use Rattle.alloc.specs.declared.Leak.{Leak}
 use Rattle.alloc.specs.declared.Leak.the-variants as leak
 use Rattle.alloc.specs.Channel.{pointersOf}
 use Rattle.alloc.specs.Params.{curveOf, levelsOf, beginsAt, leaksOf, startOf}
-use Rattle.alloc.specs.Answers.{zeros, filled, channelOf, allocateOf}
+use Rattle.alloc.specs.Answers.{filled, channelOf, allocateOf}
 use Rattle.blocks.specs.declared.AllocState.{AllocState}
 use Rattle.blocks.specs.declared.Slot.{Slot}
 use Rattle.blocks.specs.Block.{baiFits, leakFits, ifSent, sentFit, othersFit, deltasFit, codesFit, noDelta, codesAt, leakAt, deltaAt, pointersBy, uncovered, slotOf}

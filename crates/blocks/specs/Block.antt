@@ -11,11 +11,12 @@ use Rattle.bits.specs.Answers.{doneOf}
 use Rattle.tables.specs.declared.Delta.{Delta}
 use Rattle.tables.specs.declared.Pointers.{Pointers}
 use Rattle.tables.specs.declared.Pointers.the-variants as which
+use Rattle.tables.specs.Bands.{zeros}
 use Rattle.tables.specs.Fits.{upto, tablesFit, deltaFits}
 use Rattle.alloc.specs.declared.Codes.{Codes}
 use Rattle.alloc.specs.declared.Leak.{Leak}
 use Rattle.alloc.specs.declared.Leak.the-variants as leak
-use Rattle.alloc.specs.Answers.{zeros, filled, allocateOf}
+use Rattle.alloc.specs.Answers.{filled, allocateOf}
 use Rattle.blocks.specs.declared.AllocState.{AllocState}
 use Rattle.blocks.specs.declared.Slot.{Slot}
 use Rattle.blocks.specs.declared.Channel.{Channel}

@@ -20,7 +20,8 @@ ghost use mathlib.Core.Bool.{not, _&&_, _||_};
 ghost use lib.Dec.{eqb};
 ghost use Rattle.refusal.specs.Refusals.{numberOf, grounds, taken, refused as refusedOf, andThen, thenRun};
 ghost use Rattle.syntax.specs.Reads.{standing, seenOf, readerOf};
-ghost use Rattle.alloc.specs.Answers.{allocatedOf, filled, zeros};
+ghost use Rattle.tables.specs.Bands.{zeros};
+ghost use Rattle.alloc.specs.Answers.{allocatedOf, filled};
 ghost use Rattle.blocks.specs.Block.{baiFits, leakFits, ifSent, sentFit, othersFit, deltasFit, codesFit, quietFrom, quiet, noDelta, codesAt, leakAt, deltaAt, pointersBy, uncovered, slotOf, blockOf, filledSlots, silence, slotsFrom, allocateBlockOf};
 ghost use Rattle.blocks.specs.Side.{withDelta, toldOf, badCode, deltaCodeOf, fieldAsk, withSegment, segmentOf, segmentsOf, keptOf, readDeltaOf, over, gatheredOf, deltaReadOf};
 

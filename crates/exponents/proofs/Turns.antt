@@ -14,7 +14,8 @@ use Rattle.refusal.proofs.Laws.{never, taken-same, past-test}
 use Rattle.syntax.specs.declared.Ask.{Ask}
 use Rattle.syntax.specs.Reads.{Standing, readOf}
 use Rattle.exponents.specs.declared.ExpSet.{ExpSet}
-use Rattle.exponents.specs.Set.{sizeOf, groupCount, digits, allDigits, running, outside, spread, firstOf, leading, outputs, baseOf, zeros, binsOf}
+use Rattle.tables.specs.Bands.{zeros}
+use Rattle.exponents.specs.Set.{sizeOf, groupCount, digits, allDigits, running, outside, spread, firstOf, leading, outputs, baseOf, binsOf}
 use Rattle.exponents.specs.Reads.{unfit, absAsk, groupAsk, groupOf, groupsOf, setOf, leaves, readExponentsOf}
 use Rattle.exponents.specs.Turns.{Laid, laid, lastOf, begunOf, onward, unpackOn, groupOn, groupsOn, firstOn, finishOn}
 use Rattle.exponents.proofs.Lists.{sets-append, three-length, digits-more, running-append, last-append, spread-append, outside-append}

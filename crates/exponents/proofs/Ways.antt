@@ -27,7 +27,8 @@ use Rattle.syntax.proofs.ReadLaws.{read-taken}
 use Rattle.exponents.specs.declared.ExpSet.{ExpSet}
 use Rattle.exponents.specs.declared.Exponents.{Exponents}
 use Rattle.exponents.specs.declared.Run.{Run}
-use Rattle.exponents.specs.Set.{sizeOf, groupCount, digits, running, outside, spread, zeros}
+use Rattle.tables.specs.Bands.{zeros}
+use Rattle.exponents.specs.Set.{sizeOf, groupCount, digits, running, outside, spread}
 use Rattle.exponents.specs.Reads.{Left, left, exponentsOf, unfit, absAsk, groupAsk, setOf, noSet, readExponentsOf}
 use Rattle.exponents.specs.Turns.{Laid, laid, holding, runOf, lastOf, begunOf, unpackOn, groupOn, groupsOn, firstOn, finishOn}
 use Rattle.exponents.proofs.Turns.{way-is}

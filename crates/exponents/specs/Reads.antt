@@ -15,7 +15,8 @@ use Rattle.syntax.specs.Names as names
 use Rattle.syntax.specs.Reads.{Standing, standing, readOf}
 use Rattle.exponents.specs.declared.ExpSet.{ExpSet}
 use Rattle.exponents.specs.declared.Exponents.{Exponents}
-use Rattle.exponents.specs.Set.{bySlot, sizeOf, groupCount, allDigits, outside, firstOf, outputs, baseOf, zeros, binsOf}
+use Rattle.tables.specs.Bands.{zeros}
+use Rattle.exponents.specs.Set.{bySlot, sizeOf, groupCount, allDigits, outside, firstOf, outputs, baseOf, binsOf}
 
 -- what reading a set leaves behind: the cursor's numbers and the log, and the set
 pub record Left : Type 0 where

@@ -6,6 +6,7 @@ use mathlib.Core.List.{List, [], _∷_, _++_}
 use lib.ListN.{replicate}
 use lib.Seq.{sets}
 use lib.Dec.{eqb, ltb}
+use Rattle.tables.specs.Bands.{zeros}
 
 -- of the slots, 5 is coupling and 6 is LFE
 abbrev pub isCoupling : ℕ → Bool
@@ -68,8 +69,5 @@ abbrev pub baseOf : ℕ → ℕ → ℕ
 baseOf slot start = cond (isCoupling slot) start 0
 
 -- "bins without one are 0", 256 of them; storing past the last bin changes nothing: "those past bin 255 are dropped"
-abbrev pub zeros : List ℕ
-zeros = replicate 256 0
-
 abbrev pub binsOf : ℕ → List ℕ → List ℕ
 binsOf base outs = sets zeros base outs

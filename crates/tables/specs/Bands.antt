@@ -1,10 +1,14 @@
--- TS 6.2.2.3, the banding structure: the bands' first bins, and a bin's band.
+-- The bins of a channel, and TS 6.2.2.3, the banding structure: the bands' first bins, and a bin's band.
 -- Assumes nothing.
 use Prim.Native.Nat.{ℕ, _-_, min, suc}
 use mathlib.Core.List.{List, [], _∷_}
-use lib.ListN.{getD}
+use lib.ListN.{getD, replicate}
 use mathlib.Core.Bool.{cond}
 use lib.Dec.{leb}
+
+-- 256 bins, all zero
+abbrev pub zeros : List ℕ
+zeros = replicate 256 0
 
 -- the first bins of the bands, and the end of the last
 abbrev pub bandStarts : List ℕ
