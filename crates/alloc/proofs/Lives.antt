@@ -13,7 +13,7 @@ use Rattle.tables.proofs.Signed.{widen}
 use Rattle.alloc.specs.declared.Carried.{Carried}
 use Rattle.alloc.specs.declared.Curve.{Curve}
 use Rattle.alloc.specs.declared.Levels.{Levels}
-use Rattle.alloc.specs.Clauses.{powersOf, bandPowers, maskStep}
+use Rattle.alloc.specs.Clauses.{powersOf, bandPowers}
 use Rattle.alloc.specs.Excite.{exciteOf}
 use Rattle.alloc.specs.Ranges.{Tame, Kept, Level, Segments}
 use Rattle.alloc.specs.Channel.{of, stopOf, masksFrom}

@@ -25,9 +25,8 @@ use Rattle.alloc.specs.Channel.{pointersOf}
 use Rattle.alloc.specs.Params.{curveOf, levelsOf, beginsAt, leaksOf, startOf}
 use Rattle.alloc.specs.Answers.{filled, channelOf, allocateOf}
 use Rattle.blocks.specs.declared.AllocState.{AllocState}
-use Rattle.blocks.specs.declared.Slot.{Slot}
 use Rattle.blocks.specs.Block.{baiFits, leakFits, ifSent, sentFit, othersFit, deltasFit, codesFit, noDelta, codesAt, leakAt, deltaAt, pointersBy, uncovered, slotOf}
-use Rattle.blocks.specs.Order.{among, byOneOf, Tested, InOrder}
+use Rattle.blocks.specs.Order.{among, byOneOf, InOrder}
 
 -- the numbers of a slot
 abbrev slotNumbers : List ℕ

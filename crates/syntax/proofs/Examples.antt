@@ -6,7 +6,6 @@ use Prim.Native.Nat.{ℕ}
 use lib.ListN.{length, replicate}
 use lib.IntN.{pos, negsuc}
 use base.Fml.{GName}
-use denote.Ref.{RefT}
 use Rattle.refusal.specs.Refusals.{grounds, taken, refused, Ran}
 use Rattle.bits.specs.Bits.{bitAt, bitsAt}
 use Rattle.syntax.specs.declared.Role.{Role}

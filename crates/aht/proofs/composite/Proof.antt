@@ -1,11 +1,10 @@
 -- `aht::composite` meets its contract: what was read is compared with 26.
 -- Assumes nothing.
 use Prim.Native.Nat.{_*_}
-use mathlib.Core.Path.{_∙_, sym, ap}
+use mathlib.Core.Path.{_∙_, sym}
 use lib.ListN.{length}
 use denote.Ref.{now}
 use Rattle.syntax.proofs.Tests.{sound-limit}
-use Rattle.aht.specs.Aht.{refuseOn}
 use Rattle.aht.specs.Tallies.{tallyOf}
 use Rattle.aht.proofs.Laws.{held-less, composite-above, composite-fine}
 use borrow.Author.Needs.{needs}

@@ -8,7 +8,6 @@ use Rattle.syntax.proofs.Tests.{sound-limit}
 use Rattle.aht.specs.Aht.{Walk, tagOn}
 use Rattle.aht.specs.Tallies.{tallyOf}
 use Rattle.aht.proofs.Laws.{held-less, read-tags, gained-tag, gained-small}
-use borrow.Author.Needs.{needs}
 use native.Mathlib.Omega.{arith}
 use Rattle.aht.proofs.gained.Statement.{statement}
 use Rattle.aht.proofs.gained.Tie as tie

@@ -1,6 +1,5 @@
 -- `aht::last_read` meets its contract: the bits stand before the bit of the walk, inside the frame.
 -- Assumes nothing.
-use borrow.Author.Needs.{needs}
 use native.Mathlib.Omega.{arith}
 use Rattle.aht.proofs.last_read.Statement.{statement}
 use Rattle.aht.proofs.last_read.Tie as tie

@@ -6,7 +6,6 @@ use denote.Ref.{now}
 use Rattle.aht.specs.Aht.{gainedOn}
 use Rattle.aht.specs.Tallies.{tallyOf, small}
 use Rattle.aht.proofs.Laws.{mantissa-plain, mantissa-gained}
-use borrow.Author.Needs.{needs}
 use native.Mathlib.Omega.{arith}
 use Rattle.aht.proofs.mantissa.Statement.{statement}
 use Rattle.aht.proofs.mantissa.Tie as tie

@@ -6,7 +6,6 @@ use denote.Ref.{now}
 use Rattle.aht.specs.Aht.{Walk, times, mantissaOn}
 use Rattle.aht.specs.Tallies.{tallyOf, tagsMost}
 use Rattle.aht.proofs.Laws.{times-none, times-again, mantissa-tags}
-use borrow.Author.Needs.{needs}
 use native.Mathlib.Omega.{arith}
 use Rattle.aht.proofs.six.Statement.{statement}
 use Rattle.aht.proofs.six.Tie as tie

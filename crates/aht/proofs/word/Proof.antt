@@ -4,7 +4,6 @@ use mathlib.Core.Path.{_∙_}
 use denote.Ref.{now}
 use Rattle.aht.specs.Tallies.{tallyOf}
 use Rattle.aht.proofs.Laws.{word-three, word-one}
-use borrow.Author.Needs.{needs}
 use native.Mathlib.Omega.{arith}
 use Rattle.aht.proofs.word.Statement.{statement}
 use Rattle.aht.proofs.word.Tie as tie

@@ -6,7 +6,6 @@ use denote.Ref.{now}
 use Rattle.aht.specs.Aht.{times, wordOn}
 use Rattle.aht.specs.Tallies.{tallyOf}
 use Rattle.aht.proofs.Laws.{times-none, times-again}
-use borrow.Author.Needs.{needs}
 use native.Mathlib.Omega.{arith}
 use Rattle.aht.proofs.words.Statement.{statement}
 use Rattle.aht.proofs.words.Tie as tie
