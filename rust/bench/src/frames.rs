@@ -1,7 +1,8 @@
 //! Whole frames: headers, tails, checksums.
 
+use crate::cursor::{empty_log, read_all, ELEMENTS, WIDTH};
 use crate::rust::frames as rust;
-use crate::{empty_log, measure, read_all, CALLS, ELEMENTS, FRAME, WIDTH};
+use crate::{measure, CALLS, FRAME};
 use std::hint::black_box;
 use zelamodurk::bits;
 use zelamodurk::frame::{self, Codec};

@@ -1,9 +1,11 @@
 //! What reads, walks and allocates slots.
 
-use crate::{exponents as stream_exponents, measure, rust, written, CODES, END};
+use crate::channel::{self, Tables, CODES, END};
+use crate::rust::cursor::Reader;
+use crate::{measure, rust, written};
 use std::hint::black_box;
-use zelamodurk::alloc::{Bin, Pointers, Tables, BINS};
-use zelamodurk::blocks::{self, Slot, State, SLOTS};
+use zelamodurk::alloc::{Bin, Pointers, BINS};
+use zelamodurk::blocks::{self, Slot, Slots, State, SLOTS};
 use zelamodurk::exponents::{self, Ask, ExpSet, CPL, D15, D45, LFE};
 use zelamodurk::syntax::Place;
 use zelamodurk::walks::{self, Groups};
@@ -50,7 +52,7 @@ fn read_exponents(name: &str, bytes: &[u8], ask: &Ask) {
     let frame = groups(bytes);
     let (begin, mut log) = (Place::new(8 * frame.len()), [0; LOG]);
     let mut set = ExpSet::default();
-    let mut reader = rust::Reader::new(&frame);
+    let mut reader = Reader::new(&frame);
     measure(
         name,
         1.5,
@@ -71,20 +73,18 @@ fn read_exponents(name: &str, bytes: &[u8], ask: &Ask) {
     );
 }
 
-/// Five full channels, coupling and LFE.
-fn allocate_block(bytes: &[u8]) {
-    let state = state();
-    let sets: [ExpSet; SLOTS] = std::array::from_fn(|slot| ExpSet {
-        exp: stream_exponents(&bytes[BINS * slot..]),
-        start: Bin(0),
-        end: Bin(END),
-    });
-    let range = |slot: usize| match slot as u8 {
+/// The bins of a slot: five full channels, coupling and LFE.
+fn range(slot: usize) -> (usize, usize) {
+    match slot as u8 {
         CPL => (CPL_START, END),
         LFE => (0, LFE_END),
         _ => (0, END),
-    };
-    let slots = std::array::from_fn(|slot| {
+    }
+}
+
+/// Every slot by its exponents, which are there for all bins.
+fn slots(sets: &[ExpSet; SLOTS]) -> Slots<'_> {
+    std::array::from_fn(|slot| {
         let (start, end) = range(slot);
         Some(Slot {
             exponents: &sets[slot],
@@ -92,12 +92,16 @@ fn allocate_block(bytes: &[u8]) {
             end: Bin(end),
             pointers: Pointers::Bap,
         })
+    })
+}
+
+fn allocate_block(bytes: &[u8]) {
+    let sets: [ExpSet; SLOTS] = std::array::from_fn(|slot| ExpSet {
+        exp: channel::exponents(&bytes[BINS * slot..]),
+        start: Bin(0),
+        end: Bin(END),
     });
-    let (hearing, log_add) = rust::tables();
-    let tables = Tables {
-        hearing: &hearing,
-        log_add: &log_add,
-    };
+    let (state, slots, tables) = (state(), slots(&sets), Tables::new());
     let rusts = rust::Block::new(&state, &sets, range);
     let mut pointers = [[0; BINS]; SLOTS];
     measure(
@@ -110,7 +114,7 @@ fn allocate_block(bytes: &[u8]) {
                 black_box(&state),
                 fscod,
                 &slots,
-                &tables,
+                &tables.lent(),
                 &mut pointers,
             ));
         },
@@ -140,27 +144,15 @@ fn state() -> State {
 
 /// The pointers of a channel of 253 bins.
 fn pointers(bytes: &[u8], pointers: Pointers) -> [u8; BINS] {
-    let (hearing, log_add) = rust::tables();
-    let channel = alloc::Channel {
-        exponents: &stream_exponents(bytes),
-        start: Bin(0),
-        end: Bin(END),
-        codes: CODES,
-        leak: None,
-        delta: &[],
-        pointers,
-    };
-    let tables = Tables {
-        hearing: &hearing,
-        log_add: &log_add,
-    };
-    alloc::allocate(&channel, &tables).unwrap_or([0; BINS])
+    let exponents = channel::exponents(bytes);
+    let channel = channel::full(&exponents, pointers);
+    alloc::allocate(&channel, &Tables::new().lent()).unwrap_or([0; BINS])
 }
 
 fn conventional(bytes: &[u8]) {
     let bap = pointers(bytes, Pointers::Bap);
     let begin = Place::new(8 * bytes.len());
-    let mut reader = rust::Reader::new(bytes);
+    let mut reader = Reader::new(bytes);
     measure(
         "conventional walk",
         1.0,
@@ -185,7 +177,7 @@ fn aht_walk(name: &str, bytes: &[u8], gaqmod: u32) {
     let mut frame = written([(gaqmod, 2)].into_iter().chain(gains));
     frame.extend_from_slice(&bytes[..bytes.len() - frame.len()]);
     let begin = Place::new(8 * frame.len());
-    let mut reader = rust::Reader::new(&frame);
+    let mut reader = Reader::new(&frame);
     measure(
         name,
         1.0,
