@@ -1,15 +1,16 @@
 //! Document 01's rules, written apart from the core.
 //!
 //! Bits: "The bits layer tests 6, then 1 for any range (position plus width) past either buffer."
-//! Syntax: "Reading one element tests 6, then 1, then 19." Allocation: [`channel`] and [`block`]. Exponents,
-//! delta segments and walks: [`reading`].
+//! Elements and their log: [`syntax`]. Allocation: [`channel`] and [`block`]. Exponents, delta segments and
+//! walks: [`reading`].
 
 pub mod block;
 pub mod channel;
 pub mod frame;
 pub mod reading;
+pub mod syntax;
 
-use crate::call::{Call, Standing};
+use crate::call::Call;
 use zelamodurk::syntax::Place;
 
 pub use channel::is_empty_past_the_bins;
@@ -22,8 +23,6 @@ pub use reading::reads_on;
 const BAD_ARGUMENT: u8 = 6;
 /// A range past the end of its buffer, or an element past the limit.
 const PAST_LIMIT: u8 = 1;
-/// Elements that don't tile.
-const NOT_TILED: u8 = 18;
 /// A log with no room for one more.
 const LOG_FULL: u8 = 19;
 /// deltbae 0 in block 0, or above 2.
@@ -45,26 +44,12 @@ pub fn number(call: &Call) -> u8 {
         Call::RangeEq { x, a, y, b, n } => past(&[(x, *a), (y, *b)], *n),
         Call::RangeZero { x, a, n } => past(&[(x, *a)], *n),
         Call::Crc16 { .. } | Call::Zeros { .. } => 0,
-        Call::ReadElement { ask, .. } if ask.width > 32 => BAD_ARGUMENT,
-        Call::ReadElement { from, ask } => element(from, ask.width),
-        Call::ReadRaw { width, .. } if *width > 32 => BAD_ARGUMENT,
-        Call::ReadRaw {
-            frame,
-            place,
-            width,
-        } => first(&[
-            (BAD_ARGUMENT, !is_sound(frame, place)),
-            (PAST_LIMIT, passes_limit(place, *width)),
-        ]),
-        Call::Span { from, width, .. } => element(from, *width),
-        Call::CloseSpan { from, start, .. } => closing(from, *start),
-        Call::CheckTiling { log, count, total } => first(&[
-            (BAD_ARGUMENT, *count > room(log)),
-            (NOT_TILED, !tile(log, *count, *total)),
-        ]),
-        Call::ElementAt { log, count, k } => {
-            first(&[(BAD_ARGUMENT, *count > room(log) || k >= count)])
-        }
+        Call::ReadElement { .. }
+        | Call::ReadRaw { .. }
+        | Call::Span { .. }
+        | Call::CloseSpan { .. }
+        | Call::CheckTiling { .. }
+        | Call::ElementAt { .. } => syntax::number(call),
         Call::Allocate(given) => channel::number(given),
         Call::AllocateBlock(given) => block::number(given),
         Call::DeltaCode {
@@ -110,60 +95,8 @@ fn past(ranges: &[(&[u8], usize)], n: usize) -> u8 {
     first(&[(PAST_LIMIT, ranges.iter().any(passes))])
 }
 
-/// "A cursor's limit is at most 32,768 bits and never past its data."
-fn is_sound(frame: &[u8], place: &Place) -> bool {
-    place.limit <= 32_768 && place.limit <= 8 * frame.len()
-}
-
-/// "At most 4,096 elements of its room are used."
-fn room(log: &[u32]) -> usize {
-    (log.len() / WORDS).min(4096)
-}
-
-fn passes_limit(place: &Place, width: usize) -> bool {
-    place.pos as u128 + width as u128 > place.limit as u128
-}
-
 fn wraps(place: &Place, width: usize) -> bool {
     place.pos.checked_add(width).is_none()
-}
-
-/// An element of any width at the cursor: 6, 1, 19.
-fn element(from: &Standing, width: usize) -> u8 {
-    let (place, room) = (&from.place, room(&from.log));
-    first(&[
-        (
-            BAD_ARGUMENT,
-            !is_sound(&from.frame, place) || place.count > room,
-        ),
-        (PAST_LIMIT, passes_limit(place, width)),
-        (LOG_FULL, place.count == room),
-    ])
-}
-
-/// "Start past the cursor, or cursor past its limit: 6, then 19."
-fn closing(from: &Standing, start: usize) -> u8 {
-    let (place, room) = (&from.place, room(&from.log));
-    first(&[
-        (
-            BAD_ARGUMENT,
-            !is_sound(&from.frame, place) || place.count > room,
-        ),
-        (BAD_ARGUMENT, start > place.pos || place.pos > place.limit),
-        (LOG_FULL, place.count == room),
-    ])
-}
-
-/// Whether each of the elements begins where those before it end together, and all end at the total.
-fn tile(log: &[u32], count: usize, total: usize) -> bool {
-    let mut sum: u128 = 0;
-    for element in log.chunks_exact(WORDS).take(count) {
-        if u128::from(element[POS]) != sum {
-            return false;
-        }
-        sum += u128::from(element[WIDTH]);
-    }
-    sum == total as u128
 }
 
 /// A run of zero bytes that fits a buffer and leaves the register as n of them do. The polynomial is

@@ -2,7 +2,8 @@
 //! 17"; then the elements, "auxdatal (17 if above auxbits' width)"; "last, 18". Checksums: "even lengths to
 //! 4,096, from 8 for AC-3 and 4 for E-AC-3; else 20".
 
-use super::{first, is_sound, room, tile, BAD_ARGUMENT, LOG_FULL, NOT_TILED};
+use super::syntax::{is_unfit, room, tile, NOT_TILED};
+use super::{first, BAD_ARGUMENT, LOG_FULL};
 use crate::call::Standing;
 use zelamodurk::frame::Codec;
 
@@ -49,10 +50,7 @@ pub fn tail(from: &Standing, total: usize) -> u8 {
     let aux = usize::from(has_aux);
     let passes = |n: usize| place.pos as u128 + n as u128 > total as u128;
     first(&[
-        (
-            BAD_ARGUMENT,
-            total > place.limit || !is_sound(frame, place) || place.count > room,
-        ),
+        (BAD_ARGUMENT, total > place.limit || is_unfit(from)),
         (NO_ROOM_FOR_TAIL, passes(LAST)),
         (BAD_AUX, has_aux && passes(AUXDATAL + LAST)),
         (LOG_FULL, left < 1 + aux),

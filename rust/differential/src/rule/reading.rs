@@ -1,9 +1,10 @@
 //! Calls that read on from the cursor: exponent sets, delta segments and walks. "6 for slot, strategy,
 //! then range"; then each element is read, "6, then 1, then 19". A walk reads no element.
 
-use super::{is_sound, room, BAD_ARGUMENT, LOG_FULL, POS, WORDS};
+use super::syntax::{is_sound, is_unfit, room};
+use super::{BAD_ARGUMENT, LOG_FULL, POS, WORDS};
 use crate::answers::Answer;
-use crate::call::{Call, Standing, Walk};
+use crate::call::{Call, Walk};
 use zelamodurk::alloc::BINS;
 use zelamodurk::exponents::Ask;
 use zelamodurk::walks::Groups;
@@ -38,10 +39,6 @@ pub fn number(call: &Call) -> u8 {
 fn is_unfit_set(ask: &Ask) -> bool {
     let range = ask.start < ask.end && ask.end.0 <= BINS;
     ask.slot > 6 || !(1..=3).contains(&ask.strategy) || !range
-}
-
-fn is_unfit(from: &Standing) -> bool {
-    !is_sound(&from.frame, &from.place) || from.place.count > room(&from.log)
 }
 
 /// "Range: start ≤ end ≤ 256, else 6."
