@@ -96,8 +96,8 @@ macro_rules! signatures {
                 (frame.named(name), frame.all(Role::Sync).count())
             }
 
-            fn structs(cursor: Cursor<'_>, frame: Frame) {
-                let fields = |field: Field| {
+            fn fields(frame: Frame) {
+                for field in frame.fields {
                     let Field {
                         name: &_,
                         role: Role::Plain,
@@ -110,33 +110,28 @@ macro_rules! signatures {
                     else {
                         return;
                     };
-                };
+                }
+            }
+
+            fn taken_apart(cursor: Cursor<'_>) -> Cursor<'_> {
                 let Cursor {
                     data,
                     pos,
                     limit,
-                    fields: read,
+                    fields,
                     block,
                 } = cursor;
-                let _ = Cursor {
+                Cursor {
                     data,
                     pos,
                     limit,
-                    fields: read,
+                    fields,
                     block,
-                };
-                frame.fields.into_iter().for_each(fields);
-                let set = ExpSet {
-                    exp: vec![0_i16],
-                    start: 0,
-                    end: 0,
-                };
-                let segment = DeltaSeg {
-                    offset: 0_u8,
-                    len: 0_u8,
-                    ba: 0_u8,
-                };
-                let _ = AllocState {
+                }
+            }
+
+            fn a_block() -> (AllocState, ExpSet) {
+                let state = AllocState {
                     bai: Some([0_u8; 5]),
                     csnroffst: Some(0_u8),
                     fsnroffst: [0_u8; 7],
@@ -144,23 +139,35 @@ macro_rules! signatures {
                     cplleak: Some((0_u8, 0_u8)),
                     delta: [const { Vec::<DeltaSeg>::new() }; 7],
                 };
-                let _ = SlotAlloc {
+                let set = ExpSet {
+                    exp: vec![0_i16],
+                    start: 0,
+                    end: 0,
+                };
+                (state, set)
+            }
+
+            fn a_slot(exps: &ExpSet) -> SlotAlloc<'_> {
+                SlotAlloc {
                     slot: 0,
-                    exps: &set,
+                    exps,
                     start: 0,
                     end: 0,
                     high_efficiency: true,
-                };
-                let _ = Channel {
-                    exp: &set.exp,
+                }
+            }
+
+            fn a_channel<'a>(exp: &'a [i16], delta: &'a [DeltaSeg]) -> (Channel<'a>, Params) {
+                let channel = Channel {
+                    exp,
                     start: 0,
                     end: 0,
                     fgain: 0_i32,
                     snroffset: 0_i32,
                     leak: Some((0_i32, 0_i32)),
-                    delta: &[segment],
+                    delta,
                 };
-                let _ = Params {
+                let params = Params {
                     sdecay: 0_i32,
                     fdecay: 0_i32,
                     sgain: 0_i32,
@@ -168,11 +175,18 @@ macro_rules! signatures {
                     floor: 0_i32,
                     fscod: 0_usize,
                 };
-                let _ = CrcStatus {
-                    crc1: Some(true),
-                    crc2: true,
-                };
+                (channel, params)
             }
+
+            const SEGMENT: DeltaSeg = DeltaSeg {
+                offset: 0_u8,
+                len: 0_u8,
+                ba: 0_u8,
+            };
+            const STATUS: CrcStatus = CrcStatus {
+                crc1: Some(true),
+                crc2: true,
+            };
 
             fn cases(error: Error, codec: Codec, role: Role) -> (usize, u8, u8) {
                 let said: String = match error {
