@@ -1,12 +1,9 @@
 //! Whole frames by the Rust's own parser, over the Rust's modules and over the drop-in core.
 
 use crate::{measure, rust::whole};
-use std::fs;
+use differential::streams;
 use std::hint::black_box;
-use zelamodurk::frame;
 
-/// The streams beside the project.
-const STREAMS: &str = concat!(env!("CARGO_MANIFEST_DIR"), "/../../../shared/streams");
 /// A row's name, and the stream whose first frame it takes.
 const ROWS: [(&str, &str); 3] = [
     ("parse, E-AC-3 5.1 frame", "e_51_48_384k.eac3"),
@@ -20,11 +17,10 @@ pub fn all() {
         return;
     }
     for (name, file) in ROWS {
-        let Ok(stream) = fs::read(format!("{STREAMS}/{file}")) else {
+        let frames = streams::cut(&streams::folder().join(file)).unwrap_or_default();
+        let Some(frame) = frames.first() else {
             continue;
         };
-        let bytes = frame::probe(&stream).map_or(0, |header| header.bytes);
-        let frame = &stream[..bytes.min(stream.len())];
         measure(
             name,
             1.3,

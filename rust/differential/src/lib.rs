@@ -18,6 +18,7 @@ pub mod rust;
 pub mod scripts;
 pub mod sides;
 pub mod slots;
+pub mod streams;
 pub mod tally;
 pub mod vectors;
 pub mod whole;

@@ -4,16 +4,12 @@
 mod made;
 
 use crate::random::Random;
-use crate::rust;
+use crate::{rust, streams};
 use std::collections::{BTreeMap, BTreeSet};
 use std::fmt;
-use std::fs;
-use std::path::{Path, PathBuf};
 use zelamodurk::bits;
-use zelamodurk::frame;
+use zelamodurk::frame::Codec;
 
-const STREAMS: &str = concat!(env!("CARGO_MANIFEST_DIR"), "/../../../shared/streams");
-const SAMPLES: &str = concat!(env!("CARGO_MANIFEST_DIR"), "/../../samples");
 /// How many damaged copies there are of each frame.
 const COPIES: usize = 200;
 /// How many frames of random bits are made for each copy of a frame.
@@ -123,34 +119,12 @@ fn agreed(rusts: &Told, ours: &Told) -> Option<String> {
     }
 }
 
-/// The E-AC-3 frames of the streams beside the project, or of the samples where there are none.
+/// The E-AC-3 frames of the streams.
 ///
 /// # Errors
 /// Where a stream can't be read or cut.
 pub fn frames() -> Result<Vec<Vec<u8>>, String> {
-    let folder = if Path::new(STREAMS).is_dir() {
-        STREAMS
-    } else {
-        SAMPLES
-    };
-    let files = fs::read_dir(folder).map_err(|e| format!("cannot read {folder}: {e}"))?;
-    let mut files: Vec<PathBuf> = files.flatten().map(|file| file.path()).collect();
-    files.retain(|file| file.extension().is_some_and(|kind| kind == "eac3"));
-    files.sort();
-    let mut frames = Vec::new();
-    for file in files {
-        let stream = fs::read(&file).map_err(|e| format!("cannot read {}: {e}", file.display()))?;
-        let mut rest = &stream[..];
-        while !rest.is_empty() {
-            let cut = frame::probe(rest).map(|header| rest.split_at_checked(header.bytes));
-            let Ok(Some((frame, after))) = cut else {
-                return Err(format!("{} is not of whole frames", file.display()));
-            };
-            frames.push(frame.to_vec());
-            rest = after;
-        }
-    }
-    Ok(frames)
+    streams::frames(Codec::Eac3)
 }
 
 /// A damaged copy of a frame; the others are there to take from.

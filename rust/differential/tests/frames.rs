@@ -1,61 +1,26 @@
 //! The frames of real streams: their length, their checksums as they are and with one bit broken, and their
-//! tails. Where the streams beside the project are not there, the samples are taken.
+//! tails.
 #![forbid(unsafe_code)]
 
 use differential::call::{Call, Standing};
 use differential::frames::CODECS;
 use differential::random::Random;
 use differential::scripts::spans;
+use differential::streams;
 use differential::tally::Tally;
-use std::fs;
-use std::path::Path;
 use std::thread;
 use zelamodurk::frame::{self, Codec, Status};
 use zelamodurk::syntax::Place;
 use zelamodurk::EMULATED;
 
-const STREAMS: &str = concat!(env!("CARGO_MANIFEST_DIR"), "/../../../shared/streams");
-const SAMPLES: &str = concat!(env!("CARGO_MANIFEST_DIR"), "/../../samples");
 /// How many bits of each frame are broken under an emulator.
 const BROKEN: usize = 24;
 
-/// The codec of a file that is a stream, by its name.
-fn codec_of(file: &Path) -> Option<Codec> {
-    match file.extension()?.to_str()? {
-        "ac3" => Some(Codec::Ac3),
-        "eac3" => Some(Codec::Eac3),
-        _ => None,
-    }
-}
-
-/// The frames of a stream, each as long as its header says.
-fn cut(stream: &[u8], codec: Codec) -> Vec<Vec<u8>> {
-    let (mut frames, mut rest) = (Vec::new(), stream);
-    while !rest.is_empty() {
-        let header = frame::probe(rest).unwrap();
-        assert_eq!(header.codec, codec);
-        let (frame, after) = rest.split_at(header.bytes);
-        frames.push(frame.to_vec());
-        rest = after;
-    }
-    frames
-}
-
 /// Every frame of every stream.
 fn frames() -> Vec<(Codec, Vec<u8>)> {
-    let folder = if Path::new(STREAMS).is_dir() {
-        STREAMS
-    } else {
-        SAMPLES
-    };
-    let mut files: Vec<_> = fs::read_dir(folder).unwrap().flatten().collect();
-    files.sort_by_key(fs::DirEntry::path);
-    let of_file = |file: fs::DirEntry| {
-        let codec = codec_of(&file.path())?;
-        let frames = cut(&fs::read(file.path()).unwrap(), codec);
-        Some(frames.into_iter().map(move |frame| (codec, frame)))
-    };
-    files.into_iter().filter_map(of_file).flatten().collect()
+    let of = |codec| streams::frames(codec).unwrap().into_iter();
+    let with = |codec| of(codec).map(move |frame| (codec, frame));
+    CODECS.into_iter().flat_map(with).collect()
 }
 
 fn good(codec: Codec) -> Status {
