@@ -2,6 +2,7 @@
 //! (`ddpmeta-core`) must tell the same of each frame of the streams and of damaged copies.
 
 mod made;
+mod refusal;
 
 use crate::random::Random;
 use crate::{rust, streams};
@@ -9,6 +10,8 @@ use std::collections::{BTreeMap, BTreeSet};
 use std::fmt;
 use zelamodurk::bits;
 use zelamodurk::frame::Codec;
+
+pub use refusal::Refusal;
 
 /// How many damaged copies there are of each frame.
 const COPIES: usize = 200;
@@ -55,17 +58,6 @@ pub struct Frame {
     pub elements: Vec<Element>,
 }
 
-/// An error that a parser answers.
-#[derive(Clone, Debug, PartialEq, Eq)]
-pub struct Refusal {
-    /// Its kind.
-    pub kind: &'static str,
-    /// The number of document 01, or 255 where it has none.
-    pub number: u8,
-    /// Its text.
-    pub said: String,
-}
-
 /// What a parser tells of a frame.
 #[derive(Clone, Debug, PartialEq, Eq)]
 pub enum Told {
@@ -77,36 +69,12 @@ pub enum Told {
     Panicked,
 }
 
-impl Refusal {
-    /// The bit that the drop-in's text carries; none where the parser itself refuses.
-    fn bit(&self) -> Option<usize> {
-        let (_, rest) = self.said.split_once(" at bit ")?;
-        rest.split(':').next()?.parse().ok()
-    }
-
-    /// Whether the drop-in's error is the same. What the parser itself refuses has the same text. What the core
-    /// refuses has the same kind and the number of the Rust's text, which has the bit for refusal 1 alone, and
-    /// the element's name where a single element was asked for.
-    fn is_as(&self, ours: &Refusal) -> bool {
-        if self.kind != ours.kind {
-            return false;
-        }
-        let (Some((name, _)), Some(bit)) = (ours.said.split_once(": refused with "), ours.bit())
-        else {
-            return self.said == ours.said;
-        };
-        let many = ["exponents", "delta", "mantissa", "aht", "tail"].contains(&name);
-        self.number == ours.number
-            && (self.number != 1 || self.said.contains(&format!(" at bit {bit} beyond ")))
-            && (many || self.number != 1 || self.said.starts_with(&format!("{name} (")))
-    }
-}
-
-/// How both tell it where they agree, and none where they don't. Where the Rust panics the drop-in refuses.
-fn agreed(rusts: &Told, ours: &Told) -> Option<String> {
+/// How both tell it of a frame where they agree, and none where they don't. Where the Rust panics the drop-in
+/// refuses.
+fn agreed(frame: &[u8], rusts: &Told, ours: &Told) -> Option<String> {
     match (rusts, ours) {
         (Told::Frame(rusts), Told::Frame(ours)) if rusts == ours => Some("taken".to_string()),
-        (Told::Refused(rusts), Told::Refused(ours)) if rusts.is_as(ours) => {
+        (Told::Refused(rusts), Told::Refused(ours)) if rusts.is_as(ours, frame) => {
             Some(match ours.number {
                 u8::MAX => "refused by the parser itself".to_string(),
                 number => format!("refused with {number:>2}"),
@@ -221,7 +189,7 @@ impl Tally {
 
     fn compare(&mut self, kind: &'static str, frame: &[u8]) -> Result<(), String> {
         let [rusts, ours] = rust::parsed(frame).ok_or("the Rust is not there")?;
-        let Some(told) = agreed(&rusts, &ours) else {
+        let Some(told) = agreed(frame, &rusts, &ours) else {
             let hex: String = frame.iter().map(|byte| format!("{byte:02X}")).collect();
             return Err(format!(
                 "a frame ({kind}) differs: {hex}\n  expected {}\n  got      {}",

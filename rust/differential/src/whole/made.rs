@@ -3,18 +3,17 @@
 //! exponents and gain words are refused; each that is gets one that passes, until something else is refused or
 //! the frame is taken.
 
-use super::{Refusal, Told};
+use super::refusal::{Refusal, GAIN, GROUP};
+use super::Told;
 use crate::random::Random;
 use crate::rust;
 use zelamodurk::bits;
 
 /// How often a frame is mended: more than it can have groups.
 const MENDED: usize = 2500;
-/// The group of three steps of 0, its bits, and those of an absolute exponent and of a composite gain.
+/// The group of three steps of 0, and the bits of an absolute exponent.
 const LEVEL: u32 = 62;
-const GROUP: usize = 7;
 const ABSOLUTE: usize = 4;
-const GAIN: usize = 5;
 
 /// A frame of random bits.
 pub fn frame(random: &mut Random) -> Vec<u8> {
