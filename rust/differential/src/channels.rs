@@ -58,15 +58,13 @@ struct Channels<'a> {
 }
 
 impl<'a> Channels<'a> {
-    /// A number from 0 to `most`.
-    fn byte(&mut self, most: u8) -> u8 {
-        self.random.to(most.into()) as u8
-    }
-
     /// A channel that is taken.
     fn any(&mut self) -> Allocation<'a> {
         let (start, end) = self.range();
-        let leak = (self.byte(LARGEST_LEAK), self.byte(LARGEST_LEAK));
+        let leak = (
+            self.random.byte(LARGEST_LEAK),
+            self.random.byte(LARGEST_LEAK),
+        );
         let count = self.random.to(8);
         Allocation {
             exponents: self.exponents(),
@@ -93,9 +91,9 @@ impl<'a> Channels<'a> {
     /// Codes of which none is past its table. A coarse offset around the middle leaves most pointers
     /// neither 0 nor the largest.
     fn codes(&mut self) -> Codes {
-        let mut bytes = LARGEST.map(|largest| self.byte(largest));
+        let mut bytes = LARGEST.map(|largest| self.random.byte(largest));
         if self.random.to(1) == 0 {
-            bytes[6] = 12 + self.byte(24);
+            bytes[6] = 12 + self.random.byte(24);
         }
         Codes::of_bytes(bytes)
     }
@@ -105,9 +103,9 @@ impl<'a> Channels<'a> {
         let [offset, len, ba] = LARGEST_SEGMENT;
         let near = self.random.one(&[3, offset]);
         Segment {
-            offset: self.byte(near),
-            len: self.byte(len),
-            ba: self.byte(ba),
+            offset: self.random.byte(near),
+            len: self.random.byte(len),
+            ba: self.random.byte(ba),
         }
     }
 
@@ -140,12 +138,12 @@ impl<'a> Channels<'a> {
     fn exponents(&mut self) -> [u8; BINS] {
         let mut exponents = [0; BINS];
         let (group, steps) = (self.random.one(&[1, 1, 2, 4]), self.random.to(3) > 0);
-        let mut exponent = self.byte(24);
+        let mut exponent = self.random.byte(24);
         for (bin, room) in exponents.iter_mut().enumerate() {
             if bin % group == 0 {
                 exponent = match steps {
-                    true => (exponent + self.byte(4)).saturating_sub(2).min(24),
-                    false => self.byte(24),
+                    true => (exponent + self.random.byte(4)).saturating_sub(2).min(24),
+                    false => self.random.byte(24),
                 };
             }
             *room = exponent;
@@ -261,16 +259,18 @@ fn low_frequencies(channels: &mut Channels, visit: &mut impl FnMut(&Call)) {
             _ => 1 + channels.random.to(40),
         };
         let mut given = channels.over((0, end));
-        let mut exponent = 24 - channels.byte(4);
+        let mut exponent = 24 - channels.random.byte(4);
         for room in &mut given.exponents[..30] {
             exponent = match channels.random.to(2) {
-                0 => (exponent + channels.byte(6)).saturating_sub(3).min(24),
+                0 => (exponent + channels.random.byte(6))
+                    .saturating_sub(3)
+                    .min(24),
                 _ => exponent.checked_sub(2).unwrap_or(24),
             };
             *room = exponent;
         }
         // Without what hides it: the compensation is at most 384.
-        given.codes.fgaincod = channels.byte(2);
+        given.codes.fgaincod = channels.random.byte(2);
         given.codes.dbpbcod = 0;
         visit(&Call::allocate(given));
     }
@@ -287,7 +287,7 @@ fn deltas(channels: &mut Channels, visit: &mut impl FnMut(&Call)) {
     for band in 0..=62 {
         for ba in 0..=7 {
             let mut given = channels.over((0, END));
-            let (offset, len) = (band / 2, 1 + channels.byte(14));
+            let (offset, len) = (band / 2, 1 + channels.random.byte(14));
             let before = Segment {
                 offset: band - offset,
                 ..NONE

@@ -22,6 +22,11 @@ impl Random {
         (self.bits() % (most as u64 + 1)) as usize
     }
 
+    /// The same of bytes.
+    pub fn byte(&mut self, most: u8) -> u8 {
+        self.to(most.into()) as u8
+    }
+
     /// One of the things.
     pub fn one<T: Copy>(&mut self, of: &[T]) -> T {
         of[self.to(of.len() - 1)]

@@ -51,7 +51,7 @@ fn ends_above(channels: &mut Channels, visit: &mut impl FnMut(&Call)) {
 fn exponents_above(channels: &mut Channels, visit: &mut impl FnMut(&Call)) {
     for _ in 0..RANDOM {
         let (mut inside, mut beside) = (channels.any(), channels.any());
-        let above = 25 + channels.byte(230);
+        let above = 25 + channels.random.byte(230);
         let bin = inside.start + channels.random.to(inside.end - inside.start - 1);
         inside.exponents[bin] = above;
         visit(&Call::allocate(inside));

@@ -44,12 +44,8 @@ struct Blocks<'a> {
 }
 
 impl<'a> Blocks<'a> {
-    fn byte(&mut self, most: u8) -> u8 {
-        self.random.to(most.into()) as u8
-    }
-
     fn bytes<const N: usize>(&mut self, most: u8) -> [u8; N] {
-        from_fn(|_| self.byte(most))
+        from_fn(|_| self.random.byte(most))
     }
 
     /// A block that is taken.
@@ -61,7 +57,7 @@ impl<'a> Blocks<'a> {
         });
         Block {
             state: self.state(),
-            fscod: self.byte(2),
+            fscod: self.random.byte(2),
             slots,
             hearing: self.tables.0.as_slice().into(),
             log_add: self.tables.1.as_slice().into(),
@@ -75,18 +71,18 @@ impl<'a> Blocks<'a> {
         let coarse = self.random.one(&[csnroffst, 30]);
         State {
             bai_sent: true,
-            sdcycod: self.byte(sdcycod),
-            fdcycod: self.byte(fdcycod),
-            sgaincod: self.byte(sgaincod),
-            dbpbcod: self.byte(dbpbcod),
-            floorcod: self.byte(floorcod),
+            sdcycod: self.random.byte(sdcycod),
+            fdcycod: self.random.byte(fdcycod),
+            sgaincod: self.random.byte(sgaincod),
+            dbpbcod: self.random.byte(dbpbcod),
+            floorcod: self.random.byte(floorcod),
             csnroffst_sent: true,
-            csnroffst: self.byte(coarse),
+            csnroffst: self.random.byte(coarse),
             fsnroffst: self.bytes(fsnroffst),
             fgaincod: self.bytes(fgaincod),
             cplleak_sent: true,
-            cplfleak: self.byte(LARGEST_LEAK),
-            cplsleak: self.byte(LARGEST_LEAK),
+            cplfleak: self.random.byte(LARGEST_LEAK),
+            cplsleak: self.random.byte(LARGEST_LEAK),
             delta: from_fn(|_| self.delta()),
         }
     }
@@ -144,12 +140,12 @@ impl<'a> Blocks<'a> {
 
     /// Exponents in steps to 2, and above 24 beside the range.
     fn exponents(&mut self, start: usize, end: usize) -> [u8; BINS] {
-        let mut exponent = self.byte(24);
+        let mut exponent = self.random.byte(24);
         from_fn(|bin| {
             if !(start..end).contains(&bin) {
                 return 255;
             }
-            exponent = (exponent + self.byte(4)).saturating_sub(2).min(24);
+            exponent = (exponent + self.random.byte(4)).saturating_sub(2).min(24);
             exponent
         })
     }
@@ -169,7 +165,7 @@ impl<'a> Blocks<'a> {
         // One offset makes the difference.
         if self.random.to(3) == 0 {
             let slot = self.random.to(SLOTS - 1);
-            given.state.fsnroffst[slot] = 1 + self.byte(14);
+            given.state.fsnroffst[slot] = 1 + self.random.byte(14);
         }
         given
     }

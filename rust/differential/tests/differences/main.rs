@@ -340,14 +340,18 @@ fn a_span_closed_past_the_limit() {
     differ(&call, Rust::Logs(0, (0, 1), 1), 6);
 }
 
-#[test]
-fn a_full_log() {
-    // The Rust's log grows.
-    let none = Place::new(8);
-    let from = || Standing::new(&[0xFF][..], &[][..], none);
+/// A read, a span and a closing at the start of a byte of ones, with a log that is full.
+fn the_rusts_log_grows(from: impl Fn() -> Standing<'static>) {
     differ(&read(from(), 1), Rust::Logs(1, (0, 1), 1), 19);
     differ(&span(from(), 1), Rust::Logs(0, (0, 1), 1), 19);
     differ(&close(from(), 0), Rust::Logs(0, (0, 0), 0), 19);
+}
+
+#[test]
+fn a_full_log() {
+    let none = Place::new(8);
+    let from = || Standing::new(&[0xFF][..], &[][..], none);
+    the_rusts_log_grows(from);
 }
 
 #[test]
@@ -357,9 +361,7 @@ fn a_log_of_more_than_4096_elements() {
         ..Place::new(8)
     };
     let from = || Standing::new(&[0xFF][..], vec![0; 8 * 4097], full);
-    differ(&read(from(), 1), Rust::Logs(1, (0, 1), 1), 19);
-    differ(&span(from(), 1), Rust::Logs(0, (0, 1), 1), 19);
-    differ(&close(from(), 0), Rust::Logs(0, (0, 0), 0), 19);
+    the_rusts_log_grows(from);
 }
 
 #[test]
