@@ -67,8 +67,9 @@ pub fn number(call: &Call) -> u8 {
     }
 }
 
-/// Whether a refusal is "the port's own": 6, 19, 20, 21, 1 in bits, and 8 and 11 in allocation. So is 1 or 16 where position plus
-/// width passes the largest number, since the Rust panics or wraps there. 19 in a tail comes where the Rust has read on: [`reading::in_room`].
+/// Whether a refusal is "the port's own": 6, 19, 20, 21, 1 in bits, and 8 and 11 in allocation. So is 1 or 16
+/// where position plus width passes the largest number, since the Rust panics or wraps there. 19 in a tail comes
+/// where the Rust has read on: [`reading::in_room`].
 pub fn is_ports_own(call: &Call, number: u8) -> bool {
     match (number, call) {
         (LOG_FULL, Call::ReadTail { .. }) => false,
