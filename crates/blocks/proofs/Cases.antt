@@ -3,13 +3,13 @@
 use Prim.Native.Nat.{ℕ, zero, suc, _<_}
 use mathlib.Core.Path.{_≡_, refl, sym, ap, _∙_}
 use mathlib.Core.List.{List, [], _∷_}
-use mathlib.Core.Bool.{true, false, not, _&&_}
+use mathlib.Core.Bool.{Bool, true, false, cond, not, _&&_}
 use native.Mathlib.Omega.{arith}
 use lib.Dec.{eqb}
-use lib.ListN.{length, getD}
+use lib.ListN.{length, getD, replicate}
 use borrow.Author.Tests.{ne-eqb}
 use Rattle.refusal.specs.declared.Refusal.{Refusal}
-use Rattle.refusal.specs.Refusals.{taken, refused, grounds, told, andThen, Ran}
+use Rattle.refusal.specs.Refusals.{Grounds, Outcome, taken, refused, grounds, told, refuseIf, andThen, Ran}
 use Rattle.bits.specs.declared.Put.{Put}
 use Rattle.bits.specs.Answers.{doneOf}
 use Rattle.tables.specs.declared.Delta.{Delta}
@@ -21,12 +21,13 @@ use Rattle.alloc.specs.declared.Leak.{Leak}
 use Rattle.alloc.specs.declared.Ended.{Ended}
 use Rattle.alloc.specs.declared.Ended.the-variants as ended
 use Rattle.alloc.specs.declared.Allocated.{Allocated as Allocated₁}
+use Rattle.alloc.specs.Table.{from, table}
 use Rattle.alloc.specs.Answers.{filled, endedOf, allocatedOf, allocateOf}
 use Rattle.blocks.specs.declared.AllocState.{AllocState}
 use Rattle.blocks.specs.declared.Slot.{Slot}
 use Rattle.blocks.specs.declared.Channel.{Channel}
 use Rattle.blocks.specs.declared.Allocated.{Allocated}
-use Rattle.blocks.specs.Block.{codesFit, quiet, noDelta, codesAt, leakAt, deltaAt, pointersBy, uncovered, slotOf, left, slotsFrom, silence, blockOf, filledSlots, allocateBlockOf}
+use Rattle.blocks.specs.Block.{codesFit, quiet, noDelta, codesAt, leakAt, deltaAt, pointersBy, uncovered, slotOf, left, channel, slotsFrom, silence, blockOf, filledSlots, allocateBlockOf}
 
 -- what a slot's answer says of what it comes to
 module _ (r : Allocated₁) {q : Ran (List ℕ) Unit} (e : allocatedOf r ≡ q) where
@@ -75,7 +76,7 @@ pub block-is : (r : Allocated) {a : Put} {cs : List Channel} → r .answer ≡ a
     → blockOf r ≡ record { outcome = doneOf a; state = cs }
 block-is r e f = λ i. record { outcome = doneOf (e i); state = f i }
 
--- the cases of a block
+-- the cases of the tests that look at no slot
 module _ (st : AllocState) (fscod : ℕ) (slots : List Slot) (hearing logAdd : List ℕ) where
   pub block-21 : tablesFit hearing logAdd ≡ false → filledSlots (refused (grounds 21 0)) ≡ allocateBlockOf st fscod slots hearing logAdd
   unfolding allocateBlockOf
@@ -96,12 +97,88 @@ module _ (st : AllocState) (fscod : ℕ) (slots : List Slot) (hearing logAdd : L
         unfolding allocateBlockOf
         block-10-bai b = rw (t, k, c, b)
 
-        module _ (b : st .«bai_sent» ≡ true) where
-          pub block-quiet : quiet st slots ≡ true → filledSlots (taken silence) ≡ allocateBlockOf st fscod slots hearing logAdd
-          unfolding allocateBlockOf
-          block-quiet q = rw (t, k, q, c, b)
+        block-tested : st .«bai_sent» ≡ true
+            → filledSlots (cond (quiet st slots) (taken silence) (slotsFrom st fscod hearing logAdd 0 slots)) ≡ allocateBlockOf st fscod slots hearing logAdd
+        unfolding allocateBlockOf
+        block-tested b = rw (t, k, c, b)
 
-          pub block-slots : quiet st slots ≡ false
-              → filledSlots (slotsFrom st fscod hearing logAdd 0 slots) ≡ allocateBlockOf st fscod slots hearing logAdd
-          unfolding allocateBlockOf
-          block-slots q = rw (t, k, q, c, b)
+abbrev pub outcome : Ran (List Channel) Unit → Outcome Unit
+outcome r = r .outcome
+
+-- a block that has no slot: what it comes to
+abbrev pub noneOf : AllocState → ℕ → List ℕ → List ℕ → Outcome Unit
+noneOf st fscod hearing logAdd = allocateBlockOf st fscod [] hearing logAdd .outcome
+
+module _ (st : AllocState) (fscod : ℕ) (hearing logAdd : List ℕ) where
+  -- no slot, quiet or not, leaves nothing to refuse
+  empty : (q : Bool) → taken tt ≡ filledSlots (cond q (taken silence) (slotsFrom st fscod hearing logAdd 0 [])) .outcome
+  unfolding slotsFrom
+  empty true = refl
+  empty false = refl
+
+  pub none-taken : tablesFit hearing logAdd ≡ true → codesFit st fscod ≡ true → st .«csnroffst_sent» ≡ true → st .«bai_sent» ≡ true
+      → taken tt ≡ noneOf st fscod hearing logAdd
+  none-taken t k c b = empty (quiet st []) ∙ ap outcome (block-tested st fscod [] hearing logAdd t k c b)
+
+  -- a block with slots is tested for the same first
+  pub block-after : (slots : List Slot)
+      → allocateBlockOf st fscod slots hearing logAdd
+      ≡ filledSlots (andThen (noneOf st fscod hearing logAdd) (λ _. cond (quiet st slots) (taken silence) (slotsFrom st fscod hearing logAdd 0 slots)))
+  unfolding allocateBlockOf
+  block-after slots =
+      each (not (tablesFit hearing logAdd)) (not (codesFit st fscod)) (not (st .«csnroffst_sent»)) (not (st .«bai_sent»)) _ _ (empty (quiet st []))
+    where
+      each : (t k c b : Bool) (x y : Outcome (List Channel)) → taken tt ≡ filledSlots y .outcome
+          → filledSlots (refuseIf t 21 0 (refuseIf k 11 0 (refuseIf c 10 0 (refuseIf b 10 0 x))))
+          ≡ filledSlots (andThen (filledSlots (refuseIf t 21 0 (refuseIf k 11 0 (refuseIf c 10 0 (refuseIf b 10 0 y)))) .outcome) (λ _. x))
+      each true k c b x y e = refl
+      each false true c b x y e = refl
+      each false false true b x y e = refl
+      each false false false true x y e = refl
+      each false false false false x y e = ap (λ (o : Outcome Unit). filledSlots (andThen o (λ _. x))) e
+
+-- the cases of a block
+module _ (st : AllocState) (fscod : ℕ) (slots : List Slot) (hearing logAdd : List ℕ) where
+  -- what the first tests come to, and what is then known of the slots
+  abbrev rest : Outcome Unit → Bool → Ran (List Channel) Unit
+  rest o q = filledSlots (andThen o (λ _. cond q (taken silence) (slotsFrom st fscod hearing logAdd 0 slots)))
+
+  block-by : {o : Outcome Unit} {q : Bool} → o ≡ noneOf st fscod hearing logAdd → quiet st slots ≡ q
+      → rest o q ≡ allocateBlockOf st fscod slots hearing logAdd
+  block-by e h = (λ i. rest (e i) (sym h i)) ∙ sym (block-after st fscod hearing logAdd slots)
+
+  pub block-stops : {g : Grounds} → refused g ≡ noneOf st fscod hearing logAdd → filledSlots (refused g) ≡ allocateBlockOf st fscod slots hearing logAdd
+  block-stops e = block-by e refl
+
+  module _ (e : taken tt ≡ noneOf st fscod hearing logAdd) where
+    pub block-quiet : quiet st slots ≡ true → filledSlots (taken silence) ≡ allocateBlockOf st fscod slots hearing logAdd
+    block-quiet h = block-by e h
+
+    pub block-slots : quiet st slots ≡ false
+        → filledSlots (slotsFrom st fscod hearing logAdd 0 slots) ≡ allocateBlockOf st fscod slots hearing logAdd
+    block-slots h = block-by e h
+
+-- a block whose slots are all not there
+module _ (st : AllocState) (fscod : ℕ) (hearing logAdd : List ℕ) (f : ℕ → Slot) (h : (i : ℕ) → f i .present ≡ false) where
+  absent-slots : (i n : ℕ) → slotsFrom st fscod hearing logAdd i (from i n f) ≡ taken (replicate n (channel zeros))
+  unfolding slotsFrom from
+  absent-slots i zero = refl
+  absent-slots i (suc n) =
+      λ j.
+      andThen (left (sym (slot-absent st fscod hearing logAdd i (f i) (h i)) j)) (λ bap.
+      andThen (absent-slots (suc i) n j) (λ rest.
+      taken (channel bap ∷ rest)))
+
+  pub block-none : record { outcome = noneOf st fscod hearing logAdd; state = silence } ≡ allocateBlockOf st fscod (table 7 f) hearing logAdd
+  block-none =
+      silent (noneOf st fscod hearing logAdd)
+      ∙ ap (λ (o : Outcome (List Channel)). filledSlots (andThen (noneOf st fscod hearing logAdd) (λ _. o))) (either (quiet st (table 7 f)))
+      ∙ sym (block-after st fscod hearing logAdd (table 7 f))
+    where
+      silent : (o : Outcome Unit) → record { outcome = o; state = silence } ≡ filledSlots (andThen o (λ _. taken silence))
+      silent (taken a) = refl
+      silent (refused g) = refl
+
+      either : (q : Bool) → taken silence ≡ cond q (taken silence) (slotsFrom st fscod hearing logAdd 0 (table 7 f))
+      either true = refl
+      either false = sym (absent-slots 0 7)

@@ -19,6 +19,8 @@ use Rattle.blocks.specs.declared.Told.{Told}
 use Rattle.blocks.specs.declared.DeltaRead.{DeltaRead}
 use Rattle.blocks.specs.Block.{blockOf}
 use Rattle.blocks.specs.Side.{Stood, toldOf}
+use Rattle.blocks.proofs.allocate_none.Kinds as allocate-none-kinds
+use Rattle.blocks.proofs.allocate_none.Reads as allocate-none-reads
 use Rattle.blocks.proofs.allocate_block.Kinds as allocate-block-kinds
 use Rattle.blocks.proofs.allocate_block.Reads as allocate-block-reads
 use Rattle.blocks.proofs.delta_code.Kinds as delta-code-kinds
@@ -43,6 +45,9 @@ abbrev readBack : Ran Stood Unit → DeltaRead
 readBack w = record { answer = doneBack (w .outcome); place = w .state .standing .place; state = w .state .state }
 
 -- any two results that a contract allows are equal; the contracts are read from the code
+pub allocate-none-one : Decides 2 allocate-none-kinds.ps allocate-none-kinds.r allocate-none-reads.Post
+allocate-none-one κs a x y s t = one-answer doneOf doneBack done-back x y
+
 pub allocate-block-one : Decides 2 allocate-block-kinds.ps allocate-block-kinds.r allocate-block-reads.Post
 allocate-block-one κs a x y s t = one-answer blockOf blockBack block-back x y
 

@@ -15,6 +15,8 @@ use tables::Bin;
 use tables::Delta;
 use tables::Pointers;
 ghost use mathlib.Core.Path.{_≡_};
+ghost use mathlib.Core.List.{[]};
+ghost use Rattle.bits.specs.Answers.{doneOf};
 ghost use Prim.Native.Nat.{_<_, _≤_, _+_};
 ghost use mathlib.Core.Bool.{not, _&&_, _||_};
 ghost use lib.Dec.{eqb};
@@ -387,24 +389,18 @@ fn slots_of(
     }
 }
 
-// A block that is refused.
-fn refused(why: Why) -> Allocated
-    ensures { λ r. ⌜ blockOf r ≡ filledSlots (refusedOf (grounds (numberOf why) 0)) ⌝ }
+// A block that is refused whatever its slots ask.
+fn refused(why: Why) -> Put
+    ensures { λ r. ⌜ doneOf r ≡ refusedOf (grounds (numberOf why) 0) ⌝ }
 {
     let r = Refusal { why: why, bit: 0 };
-    without(Put::Refused(r))
+    Put::Refused(r)
 }
 
-// The pointers of a block's slots: 21 for unfit tables, 11 for a code past its table, 10 for csnroffst or the parameters not sent; zeros where
-// no offset is in use; else slot by slot 12, 10 for the leak, and what the channel alone answers.
-pub fn allocate_block(
-    state: AllocState,
-    fscod: u8,
-    slots: Slots,
-    hearing: &[u16],
-    log_add: &[u8],
-) -> Allocated
-    ensures { λ r. ⌜ blockOf r ≡ allocateBlockOf state fscod (slots .slot) (now (hearing .entry)) (now («log_add» .entry)) ⌝ }
+// What a block comes to that has no slot, and what every block is tested for first: 21 for unfit tables, 11 for a code past its table, 10 for
+// csnroffst or the parameters not sent.
+pub fn allocate_none(state: AllocState, fscod: u8, hearing: &[u16], log_add: &[u8]) -> Put
+    ensures { λ r. ⌜ doneOf r ≡ allocateBlockOf state fscod [] (now (hearing .entry)) (now («log_add» .entry)) .outcome ⌝ }
 {
     if !tables::tables_fit(hearing, log_add) {
         return refused(Why::BadTables);
@@ -417,6 +413,24 @@ pub fn allocate_block(
     }
     if !state.bai_sent {
         return refused(Why::NotSent);
+    }
+    Put::Done
+}
+
+// The pointers of a block's slots: what `allocate_none` refuses; zeros where no offset is in use; else slot by slot 12, 10 for the leak, and what
+// the channel alone answers.
+pub fn allocate_block(
+    state: AllocState,
+    fscod: u8,
+    slots: Slots,
+    hearing: &[u16],
+    log_add: &[u8],
+) -> Allocated
+    ensures { λ r. ⌜ blockOf r ≡ allocateBlockOf state fscod (slots .slot) (now (hearing .entry)) (now («log_add» .entry)) ⌝ }
+{
+    let first = allocate_none(state, fscod, hearing, log_add);
+    if let Put::Refused(r) = first {
+        return without(Put::Refused(r));
     }
     if all_quiet(state, slots) {
         return without(Put::Done);

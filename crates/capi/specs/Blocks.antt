@@ -1,8 +1,8 @@
 -- The calling convention over a block: what a caller hands over for each slot, and the pointers of all slots.
 -- Assumes nothing.
 use Prim.Native.Nat.{ℕ}
-use mathlib.Core.Bool.{Bool, false}
-use mathlib.Core.List.{List, [], map}
+use mathlib.Core.Bool.{Bool, true, false, not, _&&_}
+use mathlib.Core.List.{List, [], _∷_, map}
 use lib.ListN.{getD}
 use Rattle.refusal.specs.Refusals.{Ran}
 use Rattle.alloc.specs.Table.{table}
@@ -27,6 +27,11 @@ slotAt present high exponents ranges i =
 -- the seven slots in order
 unfoldable pub slotsFrom : List Bool → List Bool → List (List ℕ) → List (List ℕ) → List Slot
 slotsFrom present high exponents ranges = table 7 (slotAt present high exponents ranges)
+
+-- no slot is there
+unfoldable pub noneThere : List Bool → Bool
+noneThere [] = true
+noneThere (b ∷ bs) = not b && noneThere bs
 
 -- each slot's pointers
 unfoldable pub pointersOf : List Channel → List (List ℕ)

@@ -6,9 +6,9 @@ use blocks::Slots;
 use convention::done;
 ghost use mathlib.Core.Path.{_≡_};
 ghost use Prim.Native.Nat.{_<_};
-ghost use Rattle.blocks.specs.Block.{allocateBlockOf};
+ghost use Rattle.blocks.specs.Block.{silence, allocateBlockOf};
 ghost use Rattle.capi.specs.States.{stateFrom};
-ghost use Rattle.capi.specs.Blocks.{slotAt, slotsFrom, pointersOf, pointed, pointedOf};
+ghost use Rattle.capi.specs.Blocks.{slotAt, slotsFrom, noneThere, pointersOf, pointed, pointedOf};
 
 // What a block asks for slot i.
 fn slot_at(
@@ -55,6 +55,28 @@ fn slots_from(
     Slots { slot }
 }
 
+// Whether no slot is there.
+fn none_there(present: [bool; 7]) -> bool
+    ensures { λ r. ⌜ r ≡ noneThere present ⌝ }
+{
+    let mut i: usize = 0;
+    while i < 7 {
+        if present[i] {
+            return false;
+        }
+        i += 1;
+    }
+    true
+}
+
+// No slot's pointers.
+fn no_pointers() -> [[u8; 256]; 7]
+    ensures { λ r. ⌜ r ≡ pointersOf silence ⌝ }
+{
+    let row: [u8; 256] = [0; 256];
+    [row; 7]
+}
+
 // The pointers of one slot.
 fn bap_of(channel: Channel) -> [u8; 256]
     ensures { λ r. ⌜ r ≡ channel .bap ⌝ }
@@ -77,7 +99,7 @@ fn pointers_of(slot: [Channel; 7]) -> [[u8; 256]; 7]
     ]
 }
 
-// blocks::allocate_block.
+// blocks::allocate_block. A block that asks for no slot, as most of a frame with AHT do, is answered before the slots are copied.
 #[no_mangle]
 pub extern "C" fn zela_allocate_block(
     state: &[[u8; 25]; 8],
@@ -94,6 +116,12 @@ pub extern "C" fn zela_allocate_block(
     ensures { λ k. ⌜ pointed k (now (bit .exit)) (now (bap .exit)) ≡ pointedOf (allocateBlockOf (stateFrom (now (state .entry))) fscod (slotsFrom (now (present .entry)) (now (high .entry)) (now (exponents .entry)) (now (ranges .entry))) (now (hearing .entry)) (now («log_add» .entry))) ⌝ }
 {
     let side = state_from(state);
+    let there = *present;
+    if none_there(there) {
+        let none = no_pointers();
+        *bap = none;
+        return done(blocks::allocate_none(side, fscod, hearing, log_add), bit);
+    }
     let slots = slots_from(present, high, exponents, ranges);
     let r = blocks::allocate_block(side, fscod, slots, hearing, log_add);
     let found = r.slot;
