@@ -4,8 +4,8 @@ use crate::alloc::{exponents, first, DeltaSeg, Params};
 use crate::error::{refused, unfit, unsupported, Result};
 use crate::lent;
 use crate::syntax::{Cursor, WORDS};
-use zelamodurk::alloc::{Bin, Delta, Pointers, Segment, BINS, SEGMENTS};
-use zelamodurk::blocks::{self as core, Slot, State};
+use zelamodurk::alloc::{Bin, Delta, Pointers, BINS, SEGMENTS};
+use zelamodurk::blocks::{self as core, Slot, Slots, State};
 use zelamodurk::exponents::{self as sets, Ask};
 use zelamodurk::{aht as ahts, walks, Refusal, Why};
 
@@ -79,8 +79,7 @@ pub struct AllocState {
 
 /// Segments in the core's form.
 fn delta(segments: &[DeltaSeg]) -> Delta {
-    let few: Vec<Segment> = segments.iter().map(|segment| segment.segment()).collect();
-    Delta::of(&few)
+    segments.iter().map(|segment| segment.segment()).collect()
 }
 
 impl AllocState {
@@ -98,7 +97,7 @@ impl AllocState {
     fn state(&self) -> State {
         let [sdcycod, fdcycod, sgaincod, dbpbcod, floorcod] = self.bai.unwrap_or_default();
         let (cplfleak, cplsleak) = self.cplleak.unwrap_or_default();
-        State {
+        let mut state = State {
             bai_sent: self.bai.is_some(),
             sdcycod,
             fdcycod,
@@ -112,8 +111,18 @@ impl AllocState {
             cplleak_sent: self.cplleak.is_some(),
             cplfleak,
             cplsleak,
-            delta: std::array::from_fn(|slot| delta(&self.delta[slot])),
+            ..State::default()
+        };
+        // Most slots have no segments, and the default has none.
+        let with = self
+            .delta
+            .iter()
+            .enumerate()
+            .filter(|(_, of)| !of.is_empty());
+        for (slot, segments) in with {
+            state.delta[slot] = delta(segments);
         }
+        state
     }
 
     /// Takes over a slot's segments after a call that was not refused.
@@ -146,9 +155,9 @@ impl AllocState {
         if let (Some(to), Some(from)) = (state.delta.get_mut(slot), self.delta.get(slot)) {
             *to = delta(from);
         }
-        let before = state;
+        let before = state.delta.get(slot).copied();
         core::delta_code(&mut state, slot, code, block0).map_err(|e| refused("deltbae", e))?;
-        if state != before {
+        if state.delta.get(slot).copied() != before {
             self.take(slot, &state);
         }
         Ok(())
@@ -178,6 +187,33 @@ fn set_of(exps: &ExpSet) -> sets::ExpSet {
     }
 }
 
+/// The slots in the core's form, with the exponents of each.
+///
+/// # Errors
+/// With 6 where a slot is above 6, or asked for twice.
+fn given<'a>(
+    slots: &[SlotAlloc<'_>],
+    sets: &'a [sets::ExpSet],
+) -> std::result::Result<Slots<'a>, Refusal> {
+    let mut given = [None; SLOTS];
+    for (asked, exponents) in slots.iter().zip(sets) {
+        let slot = Slot {
+            exponents,
+            start: Bin(asked.start),
+            end: Bin(asked.end),
+            pointers: match asked.high_efficiency {
+                true => Pointers::Hebap,
+                false => Pointers::Bap,
+            },
+        };
+        match given.get_mut(asked.slot) {
+            Some(room @ None) => *room = Some(slot),
+            _ => return Err(unfit(Why::BadArgument, 0)),
+        }
+    }
+    Ok(given)
+}
+
 /// The pointers of a block's slots; nothing for a slot that was not asked for.
 ///
 /// # Errors
@@ -188,35 +224,14 @@ pub fn allocate_block(
     fscod: usize,
     slots: &[SlotAlloc<'_>],
 ) -> Result<[Vec<u8>; SLOTS]> {
-    allocated(st, fscod, slots).map_err(|refusal| refused("allocation", refusal))
-}
-
-fn allocated(
-    st: &AllocState,
-    fscod: usize,
-    slots: &[SlotAlloc<'_>],
-) -> std::result::Result<[Vec<u8>; SLOTS], Refusal> {
-    let mut held: [Option<(sets::ExpSet, &SlotAlloc)>; SLOTS] = [const { None }; SLOTS];
-    for asked in slots {
-        match held.get_mut(asked.slot) {
-            Some(room @ None) => *room = Some((set_of(asked.exps), asked)),
-            _ => return Err(unfit(Why::BadArgument, 0)),
-        }
-    }
-    let given = held.each_ref().map(|held| {
-        held.as_ref().map(|(exponents, asked)| Slot {
-            exponents,
-            start: Bin(asked.start),
-            end: Bin(asked.end),
-            pointers: match asked.high_efficiency {
-                true => Pointers::Hebap,
-                false => Pointers::Bap,
-            },
-        })
-    });
+    let sets: Vec<sets::ExpSet> = slots.iter().map(|asked| set_of(asked.exps)).collect();
     let fscod = u8::try_from(fscod).unwrap_or(u8::MAX);
     let mut pointers = [[0; BINS]; SLOTS];
-    core::allocate_block(&st.state(), fscod, &given, &lent::tables(), &mut pointers)?;
+    given(slots, &sets)
+        .and_then(|given| {
+            core::allocate_block(&st.state(), fscod, &given, &lent::tables(), &mut pointers)
+        })
+        .map_err(|refusal| refused("allocation", refusal))?;
     let mut out: [Vec<u8>; SLOTS] = Default::default();
     for asked in slots {
         out[asked.slot] = first(&pointers[asked.slot], asked.end.max(asked.start));

@@ -101,9 +101,12 @@ pub fn probe(data: &[u8]) -> Result<(Codec, usize)> {
 pub fn read_tail(cur: &mut Cursor<'_>, total: usize, codec: Codec) -> Result<()> {
     let count = cur.fields.len();
     let mut log = log_of(&cur.fields, TAIL).map_err(|refusal| refused("tail", refusal))?;
-    cur.logging("tail", &mut log, count, |frame, log, place| {
-        core::read_tail(frame, log, place, total, codec)
-    })?;
+    cur.logging(
+        "tail",
+        log.as_flattened_mut(),
+        count,
+        |frame, log, place| core::read_tail(frame, log, place, total, codec),
+    )?;
     Ok(())
 }
 

@@ -50,7 +50,9 @@
 //! # What is not from the proved functions
 //!
 //! `Writer`'s length, `ac3_five_eighths_bits`, the lookups of [`frame::Frame`], and the parameters that
-//! `AllocState::params` decodes (by document 01's code tables), since the core has no function for them.
+//! `AllocState::params` decodes (by document 01's code tables), since the core has no function for them. The
+//! [`Field`](syntax::Field) of an element that a parser reads is put together here, out of what the parser asks
+//! for, the cursor's bit and the value that the core reads.
 #![forbid(unsafe_code)]
 
 pub mod alloc;

@@ -1,7 +1,7 @@
 //! Syntax elements: a cursor that keeps every element that it reads, and the check that they tile a frame.
 
 use crate::error::{refused, taken, unfit, Result};
-use zelamodurk::syntax::{self as core, names, Ask, Place};
+use zelamodurk::syntax::{self as core, names, Place};
 use zelamodurk::{Refusal, Why};
 
 pub use zelamodurk::syntax::Role;
@@ -117,8 +117,9 @@ impl<'a> Cursor<'a> {
     }
 
     /// The part of the limit that is sound.
+    #[inline]
     fn sound(&self) -> usize {
-        self.limit.min(MOST).min(self.data.len().saturating_mul(8))
+        self.limit.min(8 * self.data.len().min(MOST / 8))
     }
 
     /// The cursor's numbers before a log of so many elements.
@@ -160,6 +161,7 @@ impl<'a> Cursor<'a> {
     }
 
     /// Hands the cursor to a call of the core that logs nothing.
+    #[inline]
     pub(crate) fn moving<T>(
         &mut self,
         what: &str,
@@ -169,6 +171,25 @@ impl<'a> Cursor<'a> {
         let done = call(self.data, &mut place);
         self.pos = place.pos;
         done.map_err(|refusal| refused(what, self.told(refusal)))
+    }
+
+    /// Reads an element. It is not logged by the core, whose log would come back with what was asked for: a
+    /// log with room for the element refuses nothing that a read without one does not.
+    // In each of the readers below, since most know the role and the width.
+    #[inline(always)]
+    fn read(&mut self, name: &'static str, role: Role, index: i16, width: usize) -> Result<u32> {
+        let pos = self.pos;
+        let value = self.raw(width, name)?;
+        self.fields.push(Field {
+            name,
+            role,
+            block: self.block,
+            index,
+            pos,
+            width,
+            value,
+        });
+        Ok(value)
     }
 
     /// Reads an element.
@@ -182,21 +203,7 @@ impl<'a> Cursor<'a> {
         index: i16,
         width: usize,
     ) -> Result<u32> {
-        let (mut log, mut place) = ([0; WORDS], self.place(0));
-        let ask = Ask {
-            name: GIVEN,
-            role,
-            index,
-            width,
-        };
-        match core::read_element(self.data, &mut log, &mut place, &ask) {
-            Ok(value) => {
-                self.fields.push(Field::of(name, &log));
-                self.pos = place.pos;
-                Ok(value)
-            }
-            Err(refusal) => Err(refused(name, self.told(refusal))),
-        }
+        self.read(name, role, index, width)
     }
 
     /// Reads an element with no role and no index.
@@ -204,7 +211,7 @@ impl<'a> Cursor<'a> {
     /// # Errors
     /// As [`Cursor::get_role`].
     pub fn get(&mut self, name: &'static str, width: usize) -> Result<u32> {
-        self.get_role(name, Role::Plain, -1, width)
+        self.read(name, Role::Plain, -1, width)
     }
 
     /// Reads an element with no role.
@@ -212,7 +219,7 @@ impl<'a> Cursor<'a> {
     /// # Errors
     /// As [`Cursor::get_role`].
     pub fn geti(&mut self, name: &'static str, index: usize, width: usize) -> Result<u32> {
-        self.get_role(name, Role::Plain, index as i16, width)
+        self.read(name, Role::Plain, index as i16, width)
     }
 
     /// Reads an element of one bit.
@@ -220,7 +227,7 @@ impl<'a> Cursor<'a> {
     /// # Errors
     /// As [`Cursor::get_role`].
     pub fn flag(&mut self, name: &'static str) -> Result<bool> {
-        Ok(self.get(name, 1)? != 0)
+        Ok(self.read(name, Role::Plain, -1, 1)? != 0)
     }
 
     /// Reads an element of one bit with an index.
@@ -228,7 +235,7 @@ impl<'a> Cursor<'a> {
     /// # Errors
     /// As [`Cursor::get_role`].
     pub fn flagi(&mut self, name: &'static str, index: usize) -> Result<bool> {
-        Ok(self.geti(name, index, 1)? != 0)
+        Ok(self.read(name, Role::Plain, index as i16, 1)? != 0)
     }
 
     /// Keeps the next `width` bits as one element.
@@ -263,6 +270,7 @@ impl<'a> Cursor<'a> {
     ///
     /// # Errors
     /// As [`Cursor::get_role`].
+    #[inline]
     pub fn raw(&mut self, width: usize, what: &str) -> Result<u32> {
         self.moving(what, |frame, place| core::read_raw(frame, place, width))
     }
@@ -270,14 +278,24 @@ impl<'a> Cursor<'a> {
 
 /// The elements as the core's log, with room for `more`. Of each the position and the width are handed
 /// over, which are what tiling looks at.
-pub(crate) fn log_of(fields: &[Field], more: usize) -> std::result::Result<Vec<u32>, Refusal> {
-    let mut log = vec![0; WORDS * (fields.len() + more)];
-    for (words, field) in log.chunks_exact_mut(WORDS).zip(fields) {
-        let word = |number| u32::try_from(number).map_err(|_| unfit(Why::BadArgument, 0));
-        words[POS] = word(field.pos)?;
-        words[WIDTH] = word(field.width)?;
+pub(crate) fn log_of(
+    fields: &[Field],
+    more: usize,
+) -> std::result::Result<Vec<[u32; WORDS]>, Refusal> {
+    let mut log = Vec::with_capacity(fields.len() + more);
+    let mut bits = 0;
+    log.extend(fields.iter().map(|field| {
+        bits |= field.pos | field.width;
+        let mut words = [0; WORDS];
+        (words[POS], words[WIDTH]) = (field.pos as u32, field.width as u32);
+        words
+    }));
+    log.resize(fields.len() + more, [0; WORDS]);
+    // One test for all: a bit above the 32nd in any number is one in their union.
+    match u32::try_from(bits) {
+        Ok(_) => Ok(log),
+        Err(_) => Err(unfit(Why::BadArgument, 0)),
     }
-    Ok(log)
 }
 
 /// Whether the elements tile the bits below `total`.
@@ -286,6 +304,7 @@ pub(crate) fn log_of(fields: &[Field], more: usize) -> std::result::Result<Vec<u
 /// With 6 where there are more than 4,096 or one's position or width is past 32 bits, then with 18 where
 /// they don't.
 pub fn check_contiguous(fields: &[Field], total: usize) -> Result<()> {
-    let tiled = log_of(fields, 0).and_then(|log| core::check_tiling(&log, fields.len(), total));
+    let tiled = log_of(fields, 0)
+        .and_then(|log| core::check_tiling(log.as_flattened(), fields.len(), total));
     tiled.map_err(|refusal| refused("check_contiguous", refusal))
 }

@@ -121,6 +121,7 @@ pub struct Tables<'a> {
 
 /// The delta segments of a slot. Of the arrays the first `count` entries are looked at.
 #[derive(Clone, Copy, Debug, Default, PartialEq, Eq, Hash)]
+#[repr(C)]
 pub struct Delta {
     /// How many segments there are, 0 to 8.
     pub count: u8,
@@ -137,16 +138,7 @@ impl Delta {
     /// refused.
     #[inline]
     pub fn of(segments: &[Segment]) -> Delta {
-        let mut delta = Delta {
-            count: u8::try_from(segments.len()).unwrap_or(u8::MAX),
-            ..Delta::default()
-        };
-        for (n, segment) in segments.iter().take(SEGMENTS).enumerate() {
-            delta.offset[n] = segment.offset;
-            delta.len[n] = segment.len;
-            delta.ba[n] = segment.ba;
-        }
-        delta
+        segments.iter().copied().collect()
     }
 
     /// The segments one by one, at most [`SEGMENTS`].
@@ -157,6 +149,23 @@ impl Delta {
             len: self.len[n],
             ba: self.ba[n],
         })
+    }
+}
+
+impl FromIterator<Segment> for Delta {
+    /// As [`Delta::of`].
+    #[inline]
+    fn from_iter<I: IntoIterator<Item = Segment>>(segments: I) -> Delta {
+        let mut delta = Delta::default();
+        for segment in segments {
+            let n = usize::from(delta.count);
+            if n < SEGMENTS {
+                (delta.offset[n], delta.len[n]) = (segment.offset, segment.len);
+                delta.ba[n] = segment.ba;
+            }
+            delta.count = delta.count.saturating_add(1);
+        }
+        delta
     }
 }
 

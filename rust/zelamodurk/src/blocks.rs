@@ -12,6 +12,7 @@ use crate::syntax::Place;
 pub const SLOTS: usize = 7;
 /// How many bytes a state has: the header's `struct zela_state`.
 pub const STATE: usize = 200;
+const _: () = assert!(size_of::<State>() == STATE);
 /// Where the fine offsets, the fast gains, the leak and the segments begin in it.
 const FINE: usize = 8;
 const GAIN: usize = FINE + SLOTS;
@@ -22,7 +23,9 @@ const DELTA: usize = 1 + 3 * SEGMENTS;
 
 /// The side information that a frame's blocks carry on, by its names in TS, not yet decoded. Beside what
 /// may be unsent stands whether it was sent. A frame begins with the default: nothing sent, no segment.
+/// It is laid out as the header's `struct zela_state`.
 #[derive(Clone, Copy, Debug, Default, PartialEq, Eq, Hash)]
+#[repr(C)]
 pub struct State {
     /// Whether the five parameters were sent.
     pub bai_sent: bool,

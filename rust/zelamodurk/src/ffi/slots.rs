@@ -1,8 +1,9 @@
 //! The boundary of what reads, walks and allocates slots. Each call is safe as the module above says;
-//! each array has the length that the header says.
+//! each array has the length that the header says. A state is laid out as the header's; the core changes
+//! its segments alone, so that what is a `bool` stays one.
 
 use crate::alloc::{Bin, Channel, Plain, Tables, BINS};
-use crate::blocks::{self, Block, Slots, State, STATE};
+use crate::blocks::{self, Block, Slots, State};
 use crate::exponents::{Ask, ExpSet};
 use crate::refusal::{outcome, Refusal};
 use crate::syntax::Place;
@@ -72,7 +73,7 @@ extern "C" {
         bit: *mut usize,
     ) -> u8;
     fn zela_delta_code(
-        state: *mut [u8; STATE],
+        state: *mut State,
         slot: usize,
         code: u32,
         block0: bool,
@@ -87,12 +88,12 @@ extern "C" {
         limit: usize,
         block: i8,
         count: *mut usize,
-        state: *mut [u8; STATE],
+        state: *mut State,
         slot: usize,
         bit: *mut usize,
     ) -> u8;
     fn zela_allocate_block(
-        state: *const [u8; STATE],
+        state: *const State,
         fscod: u8,
         present: *const bool,
         high: *const bool,
@@ -227,10 +228,9 @@ pub fn aht(
 
 #[inline]
 pub fn delta_code(state: &mut State, slot: usize, code: u32, block0: bool) -> Result<(), Refusal> {
-    let (mut bytes, mut bit) = (state.bytes(), 0);
+    let mut bit = 0;
     // SAFETY: as the module says.
-    let number = unsafe { zela_delta_code(&mut bytes, slot, code, block0, &mut bit) };
-    *state = State::of_bytes(&bytes);
+    let number = unsafe { zela_delta_code(state, slot, code, block0, &mut bit) };
     outcome(number, bit, ())
 }
 
@@ -242,7 +242,7 @@ pub fn read_delta(
     state: &mut State,
     slot: usize,
 ) -> Result<(), Refusal> {
-    let (mut bytes, mut bit) = (state.bytes(), 0);
+    let mut bit = 0;
     // SAFETY: as the module says.
     let number = unsafe {
         zela_read_delta(
@@ -254,12 +254,11 @@ pub fn read_delta(
             place.limit,
             place.block,
             &mut place.count,
-            &mut bytes,
+            state,
             slot,
             &mut bit,
         )
     };
-    *state = State::of_bytes(&bytes);
     outcome(number, bit, ())
 }
 
@@ -271,12 +270,12 @@ pub fn allocate_block(
     tables: &Tables,
     pointers: &mut Block,
 ) -> Result<(), Refusal> {
-    let (bytes, plain) = (state.bytes(), blocks::Plain::of(slots));
+    let plain = blocks::Plain::of(slots);
     let mut bit = 0;
     // SAFETY: as the module says.
     let number = unsafe {
         zela_allocate_block(
-            &bytes,
+            state,
             fscod,
             plain.present.as_ptr(),
             plain.high.as_ptr(),
