@@ -41,6 +41,7 @@
 //! |---|---|
 //! | `bits::get`, `set`, `Writer::put` | 6: a width above 32 |
 //! | `bits::get`, `set`, `range_eq`, `range_zero`, `Writer::copy` | 1: a range past its buffer, also one of width 0 |
+//! | `Writer::zeros` | 6: a length past every number |
 //! | `crc::append_frame_crc` | 20: under 2 bytes |
 //! | `Field::end` | 6: past every number |
 //! | `Cursor::close_span` | 6: a start past the cursor, or a cursor past its limit |

@@ -67,11 +67,32 @@ fn bits_panic() {
     assert_eq!(panics(|| bits::get(&x, 33, 0)), 1);
     assert_eq!(panics(|| bits::set(&mut y, 0, 33, 0)), 6);
     assert_eq!(panics(|| bits::set(&mut y, 1, 32, 0)), 1);
-    assert_eq!(panics(|| bits::range_eq(&x, 1, &y, 0, 32)), 1);
-    assert_eq!(panics(|| bits::range_zero(&x, 1, 32)), 1);
-    assert_eq!(panics(|| Writer::new().put(33, 0)), 6);
-    assert_eq!(panics(|| Writer::new().copy(&x, 1, 32)), 1);
+    assert_eq!(panics(|| bits::set(&mut y, 33, 0, 0)), 1);
+    for (at, width) in [(1, 32), (33, 0), (usize::MAX, 1)] {
+        assert_eq!(panics(|| bits::range_eq(&x, at, &y, 0, width)), 1);
+        assert_eq!(panics(|| bits::range_eq(&x, 0, &y, at, width)), 1);
+        assert_eq!(panics(|| bits::range_zero(&x, at, width)), 1);
+    }
+    assert_eq!(y, [0; 4]);
     assert_eq!(panics(|| crc::append_frame_crc(&mut vec![0])), 20);
+}
+
+/// What it refuses changes nothing in a writer.
+#[test]
+fn a_writer_panics() {
+    let (src, mut writer) = ([0xFF; 8], Writer::new());
+    writer.put(3, 5);
+    for width in [33, 800, usize::MAX - 10, usize::MAX] {
+        assert_eq!(panics(|| writer.put(width, 0)), 6);
+    }
+    for width in [usize::MAX - 2, usize::MAX] {
+        assert_eq!(panics(|| writer.zeros(width)), 6);
+    }
+    for (pos, width) in [(1, 64), (65, 0), (usize::MAX, 1), (1, usize::MAX)] {
+        assert_eq!(panics(|| writer.copy(&src, pos, width)), 1);
+    }
+    writer.copy(&src, 64, 0);
+    assert_eq!((writer.len(), writer.into_bytes()), (3, vec![0xA0]));
 }
 
 #[test]
