@@ -44,7 +44,7 @@
 //! | `Writer::zeros` | 6: a length past every number |
 //! | `crc::append_frame_crc` | 20: under 2 bytes |
 //! | `Field::end` | 6: past every number |
-//! | `Cursor::close_span` | 6: a start past the cursor, or a cursor past its limit |
+//! | `Cursor::close_span` | 6: a start past the cursor, or a cursor past its limit, or past what is sound of it |
 //! | `alloc::allocate` | 6: a table that is neither of TS's two, a range past bin 253; 8: an exponent outside 0 to 24, or not there; 11: a number that no code has, or more than 8 segments; 21: tables not lent, or unfit |
 //! | `frame::crc_status`, `fix_crcs` | 20: a length that is odd, above 4,096, or below 8 in AC-3 and 4 in E-AC-3 |
 //!

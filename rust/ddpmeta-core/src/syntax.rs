@@ -257,7 +257,7 @@ impl<'a> Cursor<'a> {
     /// Keeps the bits from `start` to the cursor as one element.
     ///
     /// # Panics
-    /// With 6 where `start` is past the cursor, or the cursor past its limit.
+    /// With 6 where `start` is past the cursor, or the cursor past its limit, or past what is sound of it.
     #[track_caller]
     pub fn close_span(&mut self, name: &'static str, role: Role, start: usize) {
         let (mut log, mut place) = ([0; WORDS], self.place(0));

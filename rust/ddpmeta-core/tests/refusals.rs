@@ -117,6 +117,10 @@ fn a_span_that_cannot_be_closed_panics() {
     cursor.pos = 33;
     assert_eq!(panics(|| cursor.close_span("a", Role::Plain, 0)), 6);
     assert!(cursor.fields.is_empty());
+    let mut cursor = Cursor::new(&frame[..1], 16);
+    cursor.pos = 12;
+    assert_eq!(panics(|| cursor.close_span("a", Role::Plain, 4)), 6);
+    assert!(cursor.fields.is_empty());
     assert_eq!(panics(|| field(usize::MAX, 1).end()), 6);
 }
 
@@ -153,6 +157,13 @@ fn a_limit_that_is_not_sound_refuses_what_passes_the_sound_part() {
         cursor.pos = sound - 1;
         assert_eq!(cursor.get("a", 1), Ok(0));
         assert_eq!(refuses(cursor.get("a", 1)), 6);
+        assert_eq!(refuses(cursor.raw(1, "a")), 6);
+        assert_eq!(refuses(cursor.span("a", Role::Plain, 1)), 6);
+        let groups = &mut Groups::default();
+        assert_eq!(refuses(conventional(&mut cursor, &[3], 0, 1, groups)), 6);
+        assert_eq!(refuses(aht(&mut cursor, &[8], 0, 1)), 6);
+        assert_eq!(refuses(read_exponents(&mut cursor, 0, 1, 0, 4)), 6);
+        assert_eq!(refuses(AllocState::default().read_delta(&mut cursor, 0)), 6);
         assert_eq!((cursor.pos, cursor.fields.len()), (sound, 1));
     }
 }
