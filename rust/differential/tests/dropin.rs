@@ -169,3 +169,12 @@ fn lookups_answer_the_same() {
         assert_eq!(lookups!(oracle, &frame), lookups!(parser, &frame));
     }
 }
+
+/// A log has room for 4,096 elements; the longest frame of the streams has 871, and that of the samples 630.
+#[test]
+fn no_frame_comes_near_a_full_log() {
+    let frames = differential::whole::frames().unwrap();
+    let count = |frame: &Vec<u8>| oracle::eac3::parse(frame).unwrap().fields.len();
+    let most = frames.iter().map(count).max();
+    assert!(matches!(most, Some(871 | 630)), "{most:?}");
+}
