@@ -372,8 +372,8 @@ uint8_t zela_allocate_block(const struct zela_state *state, uint8_t fscod, const
 
 /*
  * The syntax and the length of the frame that begins with these bytes; the rest of it need not be there.
- * Refuses, in this order: 3 where frame_len is under 6; 2 where the first 16 bits aren't 0x0B77; 4 where bsid is at most
- * 8, and fscod is 3 or frmsizecod above 37; 5 where bsid is 9, 10, or above 16.
+ * Refuses, in this order: 3 where frame_len is under 6; 2 where the first 16 bits aren't 0x0B77; 5 where bsid is 9, 10, or
+ * above 16; 4 where bsid is at most 8, and fscod is 3 or frmsizecod above 37.
  * Taken: *eac3 says whether it is E-AC-3, else it is AC-3; *bytes is its length. Refused: *eac3 is false, *bytes and *bit
  * are 0.
  */

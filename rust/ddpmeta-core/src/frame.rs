@@ -88,7 +88,7 @@ impl Frame {
 /// The syntax and the length of the frame that begins with these bytes.
 ///
 /// # Errors
-/// With 3, 2, 5 or 4, in this order.
+/// In this order: 3, 2, 5, 4.
 pub fn probe(data: &[u8]) -> Result<(Codec, usize)> {
     let header = core::probe(data).map_err(|refusal| refused("probe", refusal))?;
     Ok((header.codec, header.bytes))
