@@ -6,10 +6,9 @@ use crate::call::{Call, Standing};
 use crate::cases::HUGE;
 use crate::random::Random;
 use crate::rule::frame::{AUXDATAL, LAST};
-use crate::rule::WORDS;
 use crate::scripts::{spans, unused};
 use zelamodurk::frame::Codec;
-use zelamodurk::syntax::Place;
+use zelamodurk::syntax::{Place, WORDS};
 use zelamodurk::{bits, crc};
 
 /// Both syntaxes.

@@ -28,13 +28,6 @@ const LOG_FULL: u8 = 19;
 /// deltbae 0 in block 0, or above 2.
 const BAD_DELTA: u8 = 15;
 
-/// The words of an element in the log, and where its position and width stand among them.
-pub const WORDS: usize = 8;
-/// See [`WORDS`].
-pub const POS: usize = 4;
-/// See [`WORDS`].
-pub const WIDTH: usize = 5;
-
 /// 0 for a call that document 01 takes, or the number that it refuses it with; of a call that reads on, what
 /// is tested before anything is read.
 pub fn number(call: &Call) -> u8 {

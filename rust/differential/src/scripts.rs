@@ -6,9 +6,8 @@ use crate::answers::{expected, Answer};
 use crate::call::{Call, Standing};
 use crate::cases::{HUGE, WIDTHS};
 use crate::random::Random;
-use crate::rule::{POS, WIDTH, WORDS};
 use crate::rust;
-use zelamodurk::syntax::{Ask, Place, Role};
+use zelamodurk::syntax::{Ask, Place, Role, POS, WIDTH, WORDS};
 
 /// How many scripts there are.
 const SCRIPTS: usize = 22_000;

@@ -10,9 +10,8 @@ pub mod walks;
 use crate::call::{Call, Standing};
 use crate::cases::HUGE;
 use crate::random::Random;
-use crate::rule::WORDS;
 use crate::scripts::unused;
-use zelamodurk::syntax::Place;
+use zelamodurk::syntax::{Place, WORDS};
 
 /// Hands every case to `visit`.
 pub fn all(visit: &mut impl FnMut(&Call)) {

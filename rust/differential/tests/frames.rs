@@ -10,7 +10,7 @@ use differential::streams;
 use differential::tally::Tally;
 use std::thread;
 use zelamodurk::frame::{self, Codec, Status};
-use zelamodurk::syntax::Place;
+use zelamodurk::syntax::{Place, WORDS};
 use zelamodurk::EMULATED;
 
 /// How many bits of each frame are broken under an emulator.
@@ -105,7 +105,7 @@ fn any_broken_bit_shows_and_is_repaired() {
 /// A cursor behind one element, from the frame's start to the position.
 fn behind(frame: &[u8], pos: usize) -> Standing<'_> {
     let mut log = spans(&[(0, pos as u32)]);
-    log.resize(8 * 6, 0);
+    log.resize(WORDS * 6, 0);
     let place = Place {
         pos,
         block: 5,

@@ -11,7 +11,7 @@
 //! use zelamodurk::syntax::{self, Ask, Place, Role};
 //!
 //! let frame = [0x0B, 0x77];
-//! let mut log = [0; 8];
+//! let mut log = [0; syntax::WORDS];
 //! let mut place = Place::new(16);
 //! let sync = Ask { name: 300, role: Role::Sync, index: -1, width: 16 };
 //! assert_eq!(syntax::read_element(&frame, &mut log, &mut place, &sync), Ok(0x0B77));
@@ -23,6 +23,17 @@ use crate::core;
 use crate::refusal::Refusal;
 
 pub mod names;
+
+/// The words of an element in the log.
+pub const WORDS: usize = 8;
+/// Which of them is the position.
+pub const POS: usize = 4;
+/// Which of them is the width.
+pub const WIDTH: usize = 5;
+/// The most bits that the limit of a sound place has.
+pub const MOST_BITS: usize = 32_768;
+/// The most elements of a log that are taken.
+pub const MOST_ELEMENTS: usize = 4096;
 
 /// What an element means to an editor of metadata: the header's `enum zela_role`. Those that carry a
 /// number carry their programme.

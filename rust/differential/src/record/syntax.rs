@@ -3,9 +3,8 @@
 use crate::answers::expected;
 use crate::call::{Call, Standing};
 use crate::random::Random;
-use crate::rule::WORDS;
 use crate::scripts;
-use zelamodurk::syntax::{Ask, Place, Role};
+use zelamodurk::syntax::{Ask, Place, Role, WORDS};
 
 pub const HEAD: &str = "\
 # Answers of the functions of syntax. PLACE is POS LIMIT BLOCK COUNT, a role its word:

@@ -2,11 +2,12 @@
 //! then range"; then each element is read, "6, then 1, then 19". A walk reads no element.
 
 use super::syntax::{is_sound, is_unfit, room};
-use super::{BAD_ARGUMENT, LOG_FULL, POS, WORDS};
+use super::{BAD_ARGUMENT, LOG_FULL};
 use crate::answers::Answer;
 use crate::call::{Call, Walk};
 use zelamodurk::alloc::BINS;
 use zelamodurk::exponents::Ask;
+use zelamodurk::syntax::{POS, WORDS};
 use zelamodurk::walks::Groups;
 
 /// No call moves the cursor further.

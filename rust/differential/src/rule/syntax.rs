@@ -1,8 +1,8 @@
 //! Document 01's rules for elements and their log: "Reading one element tests 6, then 1, then 19."
 
-use super::{first, BAD_ARGUMENT, LOG_FULL, PAST_LIMIT, POS, WIDTH, WORDS};
+use super::{first, BAD_ARGUMENT, LOG_FULL, PAST_LIMIT};
 use crate::call::{Call, Standing};
-use zelamodurk::syntax::Place;
+use zelamodurk::syntax::{Place, MOST_BITS, MOST_ELEMENTS, POS, WIDTH, WORDS};
 
 /// Elements that don't tile.
 pub const NOT_TILED: u8 = 18;
@@ -36,12 +36,12 @@ pub fn number(call: &Call) -> u8 {
 
 /// "A cursor's limit is at most 32,768 bits and never past its data."
 pub fn is_sound(frame: &[u8], place: &Place) -> bool {
-    place.limit <= 32_768 && place.limit <= 8 * frame.len()
+    place.limit <= MOST_BITS && place.limit <= 8 * frame.len()
 }
 
 /// "At most 4,096 elements of its room are used."
 pub fn room(log: &[u32]) -> usize {
-    (log.len() / WORDS).min(4096)
+    (log.len() / WORDS).min(MOST_ELEMENTS)
 }
 
 /// A limit that is not sound, or a count past the room.

@@ -3,10 +3,9 @@
 use super::{quiet, Asked, LOGGED, NAMES};
 use crate::answers::Answer;
 use crate::call::{word16, Call, Standing};
-use crate::rule;
 use oracle::error::{Error, Result};
 use oracle::syntax::{check_contiguous, Cursor, Field, Role};
-use zelamodurk::syntax::{Element, Place};
+use zelamodurk::syntax::{Element, Place, POS, WIDTH, WORDS};
 
 /// The roles by their numbers, each made of its programme.
 const ROLES: [fn(u8) -> Role; 21] = [
@@ -77,14 +76,14 @@ fn field(words: &[u32]) -> Field {
         role: role(words[1]),
         block: words[2] as i8,
         index: words[3] as i16,
-        pos: words[rule::POS] as usize,
-        width: words[rule::WIDTH] as usize,
+        pos: words[POS] as usize,
+        width: words[WIDTH] as usize,
         value: words[6],
     }
 }
 
 /// The words of a field; of a number that is too large, its low bits.
-fn words(field: &Field) -> [u32; rule::WORDS] {
+fn words(field: &Field) -> [u32; WORDS] {
     [
         name(field.name),
         role_word(field.role),
@@ -99,10 +98,7 @@ fn words(field: &Field) -> [u32; rule::WORDS] {
 
 /// The first fields of a log; no more than there are.
 fn fields(log: &[u32], count: usize) -> Vec<Field> {
-    log.chunks_exact(rule::WORDS)
-        .take(count)
-        .map(field)
-        .collect()
+    log.chunks_exact(WORDS).take(count).map(field).collect()
 }
 
 /// The log with the words of every field that is new or is not as it was. The Rust's own log may grow
@@ -110,7 +106,7 @@ fn fields(log: &[u32], count: usize) -> Vec<Field> {
 fn log(before: &[u32], had: &[Field], fields: &[Field]) -> Vec<u32> {
     let mut log = before.to_vec();
     for (k, field) in fields.iter().enumerate() {
-        let (at, end) = (rule::WORDS * k, rule::WORDS * (k + 1));
+        let (at, end) = (WORDS * k, WORDS * (k + 1));
         if had.get(k) != Some(field) {
             log.resize(log.len().max(end), 0);
             log[at..end].copy_from_slice(&words(field));
@@ -250,7 +246,7 @@ pub fn tiles(spans: &[(usize, usize)], total: usize) -> Option<Asked> {
     let field = |&(pos, width)| Field {
         pos,
         width,
-        ..field(&[0; rule::WORDS])
+        ..field(&[0; WORDS])
     };
     let fields: Vec<Field> = spans.iter().map(field).collect();
     let done = quiet::caught(|| check_contiguous(&fields, total));

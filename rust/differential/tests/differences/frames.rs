@@ -6,7 +6,7 @@ use differential::call::{Call, Standing};
 use differential::scripts::spans;
 use differential::{core, rust};
 use zelamodurk::frame::{self, Codec, Status, UserBits};
-use zelamodurk::syntax::Place;
+use zelamodurk::syntax::{Place, WORDS};
 
 /// A cursor in a frame of zeros, behind one element, with room for five more.
 fn behind(bytes: usize, pos: usize) -> Standing<'static> {
@@ -17,7 +17,7 @@ fn behind(bytes: usize, pos: usize) -> Standing<'static> {
         ..Place::new(8 * bytes)
     };
     let mut log = spans(&[(0, pos as u32)]);
-    log.resize(8 * 6, 0);
+    log.resize(WORDS * 6, 0);
     Standing::new(vec![0; bytes], log, place)
 }
 
@@ -110,7 +110,7 @@ fn tails_with_a_full_log() {
     // The Rust's log grows. The core has logged what there was room for.
     for (room, pos) in [(1, 6), (2, 6), (3, 7), (4, 8)] {
         let mut from = behind(3, 6);
-        from.log.to_mut().truncate(8 * room);
+        from.log.to_mut().truncate(WORDS * room);
         let call = tail(from, 24);
         rust_leaves(&call, 0, (24, -1, 5));
         let answer = core::answer(&call).unwrap();

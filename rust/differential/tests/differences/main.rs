@@ -9,7 +9,7 @@ use differential::answers::Answer;
 use differential::call::{Allocation, Call, Standing};
 use differential::{core, rust};
 use zelamodurk::alloc::{Codes, Pointers, Segment, BINS};
-use zelamodurk::syntax::{Ask, Place, Role};
+use zelamodurk::syntax::{Ask, Place, Role, WORDS};
 
 const MAX: usize = usize::MAX;
 
@@ -225,7 +225,7 @@ fn cursor(frame: &[u8], pos: usize, limit: usize) -> Standing<'_> {
         pos,
         ..Place::new(limit)
     };
-    Standing::new(frame, vec![0; 8], place)
+    Standing::new(frame, vec![0; WORDS], place)
 }
 
 /// A plain element without an index.
@@ -309,7 +309,7 @@ fn an_index_above_32767() {
     if let Some(index) = rust::index(40_000) {
         assert_eq!(index, -25_536);
     }
-    let mut log = [0; 8];
+    let mut log = [0; WORDS];
     let ask = Ask {
         name: 0,
         role: Role::Plain,
@@ -360,7 +360,7 @@ fn a_log_of_more_than_4096_elements() {
         count: 4096,
         ..Place::new(8)
     };
-    let from = || Standing::new(&[0xFF][..], vec![0; 8 * 4097], full);
+    let from = || Standing::new(&[0xFF][..], vec![0; WORDS * 4097], full);
     the_rusts_log_grows(from);
 }
 

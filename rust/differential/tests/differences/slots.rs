@@ -7,7 +7,7 @@ use differential::{core, rust};
 use zelamodurk::alloc::{Bin, Delta, Pointers, BINS};
 use zelamodurk::blocks::{State, SLOTS};
 use zelamodurk::exponents::{Ask, ExpSet, D15};
-use zelamodurk::syntax::Place;
+use zelamodurk::syntax::{Place, WORDS};
 use zelamodurk::walks::Groups;
 
 /// What the core answers, which is what the Rust does where it is there.
@@ -26,7 +26,7 @@ fn cursor(frame: &[u8], pos: usize, limit: usize) -> Standing<'_> {
         pos,
         ..Place::new(limit)
     };
-    Standing::new(frame, vec![0; 64], place)
+    Standing::new(frame, vec![0; 8 * WORDS], place)
 }
 
 /// deltnseg 0, offset 1, length 1, ba 7: 15 bits.
@@ -115,7 +115,7 @@ fn exponents_whose_end_overflows() {
 #[test]
 fn a_set_that_fills_the_log() {
     // The Rust's log grows. What was read before stays logged.
-    let from = Standing::new(&ONE_GROUP[..], vec![0; 8], Place::new(16));
+    let from = Standing::new(&ONE_GROUP[..], vec![0; WORDS], Place::new(16));
     let call = set(from, 0);
     rust_does(&call, &leaves(&[5; 4]));
     let answer = core::answer(&call).unwrap();
