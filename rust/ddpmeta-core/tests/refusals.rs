@@ -1,51 +1,15 @@
-//! What the drop-in refuses where the original panics, wraps, or answers what document 01 refuses: each entry
-//! of the lists in the crate's documentation.
+//! What the drop-in refuses where the original panics, wraps, or answers what document 01 refuses. With
+//! `allocation.rs` and `lent.rs` it tries each entry of the lists in the crate's documentation.
 #![forbid(unsafe_code)]
 
-use ddpmeta_core::alloc::{allocate, Channel, DeltaSeg, Params};
+mod said;
+
 use ddpmeta_core::bits::{self, Writer};
-use ddpmeta_core::blocks::{
-    aht, allocate_block, conventional, read_exponents, AllocState, ExpSet, Groups, SlotAlloc,
-};
-use ddpmeta_core::error::{Error, Result};
+use ddpmeta_core::blocks::{aht, conventional, read_exponents, AllocState, Groups};
+use ddpmeta_core::crc;
 use ddpmeta_core::frame::{crc_status, fix_crcs, probe, read_tail, Codec};
 use ddpmeta_core::syntax::{check_contiguous, Cursor, Field, Role};
-use ddpmeta_core::{crc, lent};
-use std::panic::{catch_unwind, AssertUnwindSafe};
-use zelamodurk::Why;
-
-/// The number in the message of a panic, which has the refusal's name too.
-#[track_caller]
-fn panics<T>(call: impl FnOnce() -> T) -> u8 {
-    let Err(why) = catch_unwind(AssertUnwindSafe(call)) else {
-        panic!("it answers");
-    };
-    let said = why.downcast_ref::<String>().unwrap();
-    let number = number(said);
-    let name = format!(" ({:?})", Why::of_number(number));
-    assert!(said.ends_with(&name), "{said}");
-    number
-}
-
-/// The number in the text of an error.
-#[track_caller]
-fn refuses<T>(done: Result<T>) -> u8 {
-    match done {
-        Ok(_) => panic!("it answers"),
-        Err(Error::Truncated(said) | Error::Unsupported(said) | Error::Invalid(said)) => {
-            number(&said)
-        }
-        Err(error) => panic!("{error}"),
-    }
-}
-
-#[track_caller]
-fn number(said: &str) -> u8 {
-    let (_, rest) = said.split_once(": refused with ").unwrap();
-    let (number, rest) = rest.split_once(" at bit ").unwrap();
-    assert!(rest.contains(": "), "{said}");
-    number.parse().unwrap()
-}
+use said::{panics, refuses};
 
 fn field(pos: usize, width: usize) -> Field {
     Field {
@@ -164,6 +128,7 @@ fn a_limit_that_is_not_sound_refuses_what_passes_the_sound_part() {
         assert_eq!(refuses(aht(&mut cursor, &[8], 0, 1)), 6);
         assert_eq!(refuses(read_exponents(&mut cursor, 0, 1, 0, 4)), 6);
         assert_eq!(refuses(AllocState::default().read_delta(&mut cursor, 0)), 6);
+        assert_eq!(refuses(read_tail(&mut cursor, limit, Codec::Ac3)), 6);
         assert_eq!((cursor.pos, cursor.fields.len()), (sound, 1));
     }
 }
@@ -175,6 +140,9 @@ fn too_many_elements_are_refused() {
     assert_eq!(check_contiguous(&fields[..4096], 4096), Ok(()));
     assert_eq!(refuses(check_contiguous(&[field(0, 1 << 32)], 1 << 32)), 6);
     let frame = [0; 1024];
+    let mut cursor = Cursor::new(&frame, 8192);
+    cursor.fields.push(field(1 << 32, 0));
+    assert_eq!(refuses(read_tail(&mut cursor, 8192, Codec::Ac3)), 6);
     for (count, number) in [(4097, 6), (4096, 19), (4093, 19)] {
         let mut cursor = Cursor::new(&frame, 8192);
         fields.truncate(count);
@@ -194,92 +162,4 @@ fn codes_past_their_tables_are_refused() {
     assert_eq!(refuses(state(Some([4, 0, 0, 0, 0])).params(0)), 11);
     assert_eq!(refuses(state(Some([0, 0, 0, 0, 8])).params(0)), 11);
     assert_eq!(state(Some([3, 3, 3, 3, 7])).params(9).unwrap().floor, -2048);
-}
-
-/// Document 01's bap by address.
-fn bap() -> [u8; 64] {
-    let runs = [1, 5, 2, 3, 2, 2, 4, 4, 4, 4, 4, 4, 4, 4, 8, 9];
-    let all: Vec<u8> = (0..)
-        .zip(runs)
-        .flat_map(|(bap, run)| [bap].repeat(run))
-        .collect();
-    all.try_into().unwrap()
-}
-
-/// One test, since tables are lent once in a program.
-#[test]
-fn allocation_refuses() {
-    let exp = [25; 256];
-    let channel = |end, fgain| Channel {
-        exp: &exp,
-        start: 0,
-        end,
-        fgain,
-        snroffset: 0,
-        leak: None,
-        delta: &[],
-    };
-    let bai = Some([0; 5]);
-    let mut state = AllocState {
-        bai,
-        csnroffst: Some(15),
-        ..AllocState::default()
-    };
-    let params = state.params(0).unwrap();
-    let set = ExpSet {
-        exp: exp.to_vec(),
-        start: 0,
-        end: 256,
-    };
-    let short = ExpSet {
-        exp: vec![0; 4],
-        ..set.clone()
-    };
-    let ask = |slot, end| SlotAlloc {
-        slot,
-        exps: if end == 5 { &short } else { &set },
-        start: 0,
-        end,
-        high_efficiency: false,
-    };
-    state.csnroffst = Some(20);
-    assert_eq!(refuses(allocate_block(&state, 0, &[ask(0, 9)])), 21);
-    assert_eq!(panics(|| allocate(&channel(9, 128), &params, &bap())), 21);
-    assert_eq!(refuses(lent::lend(&[-1; 150], &[0; 256])), 21);
-    assert_eq!(lent::lend(&[0; 150], &[0; 256]), Ok(()));
-    assert_eq!(refuses(lent::lend(&[1; 150], &[0; 256])), 21);
-
-    assert_eq!(refuses(allocate_block(&state, 0, &[ask(7, 9)])), 6);
-    let twice = [ask(0, 9), ask(0, 9)];
-    assert_eq!(refuses(allocate_block(&state, 0, &twice)), 6);
-    assert_eq!(refuses(allocate_block(&state, 3, &[])), 11);
-    assert_eq!(refuses(allocate_block(&state, 0, &[ask(0, 254)])), 6);
-    assert_eq!(refuses(allocate_block(&state, 0, &[ask(0, 9)])), 8);
-    assert_eq!(refuses(allocate_block(&state, 0, &[ask(0, 5)])), 12);
-
-    assert_eq!(panics(|| allocate(&channel(9, 128), &params, &[0; 64])), 6);
-    assert_eq!(panics(|| allocate(&channel(254, 128), &params, &bap())), 6);
-    assert_eq!(panics(|| allocate(&channel(9, 128), &params, &bap())), 8);
-    let few = Channel {
-        exp: &[0; 4],
-        ..channel(5, 128)
-    };
-    assert_eq!(panics(|| allocate(&few, &params, &bap())), 8);
-    assert_eq!(panics(|| allocate(&channel(9, 129), &params, &bap())), 11);
-    let other = Params {
-        sdecay: 16,
-        ..params
-    };
-    assert_eq!(panics(|| allocate(&channel(9, 128), &other, &bap())), 11);
-    let segment = DeltaSeg {
-        offset: 0,
-        len: 0,
-        ba: 0,
-    };
-    let many = Channel {
-        delta: &[segment; 9],
-        ..channel(9, 128)
-    };
-    assert_eq!(panics(|| allocate(&many, &params, &bap())), 11);
-    assert_eq!(allocate(&channel(0, 128), &params, &bap()), []);
 }
