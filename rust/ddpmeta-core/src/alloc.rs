@@ -144,11 +144,21 @@ pub(crate) fn exponents(exp: &[i16]) -> [u8; BINS] {
     bytes
 }
 
+/// The most pointers that are answered. The original has as many zeros as a range says that needs no bin, and
+/// so any number for memory; no frame has a range that ends past bin 256.
+const LONGEST: usize = 1 << 16;
+
 /// The first `len` pointers, with zeros past the last bin.
-pub(crate) fn first(pointers: &[u8; BINS], len: usize) -> Vec<u8> {
+///
+/// # Errors
+/// With 6 where they would be more than [`LONGEST`].
+pub(crate) fn first(pointers: &[u8; BINS], len: usize) -> Result<Vec<u8>, Refusal> {
+    if len > LONGEST {
+        return Err(unfit(Why::BadArgument, 0));
+    }
     let mut first = pointers[..len.min(BINS)].to_vec();
     first.resize(len, 0);
-    first
+    Ok(first)
 }
 
 /// The pointers of the bins below `end`, 0 outside the range.
@@ -157,13 +167,12 @@ pub(crate) fn first(pointers: &[u8; BINS], len: usize) -> Vec<u8> {
 /// With 6 where `table` is neither of TS's two tables; 11 where a number has no code; then as the core
 /// refuses: 21 where the tables were not lent or are unfit, 11 where a code is past its table; with a range
 /// that is not empty, 6 where it ends above bin 253, and 8 where one of its exponents is outside 0 to 24, or
-/// not there.
+/// not there; with an empty one, 6 where it starts above 65,536.
 #[track_caller]
 pub fn allocate(c: &Channel<'_>, p: &Params, table: &[u8; 64]) -> Vec<u8> {
-    first(
-        &taken("allocate", pointers(c, p, table)),
-        c.end.max(c.start),
-    )
+    let all = pointers(c, p, table);
+    let len = c.end.max(c.start);
+    taken("allocate", all.and_then(|all| first(&all, len)))
 }
 
 fn pointers(c: &Channel<'_>, p: &Params, table: &[u8; 64]) -> Result<[u8; BINS], Refusal> {

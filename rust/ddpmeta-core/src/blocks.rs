@@ -125,6 +125,12 @@ impl AllocState {
         state
     }
 
+    /// Whether no offset of the slots is in use, so that their pointers are all 0 at once (TS 6.2.2.1).
+    fn is_quiet(&self, slots: &[SlotAlloc]) -> bool {
+        let unused = |asked: &SlotAlloc| self.fsnroffst.get(asked.slot) == Some(&0);
+        self.csnroffst == Some(0) && slots.iter().all(unused)
+    }
+
     /// Takes over a slot's segments after a call that was not refused.
     fn take(&mut self, slot: usize, state: &State) {
         if let (Some(to), Some(from)) = (self.delta.get_mut(slot), state.delta.get(slot)) {
@@ -178,12 +184,18 @@ pub struct SlotAlloc<'a> {
     pub high_efficiency: bool,
 }
 
-/// A slot's exponents in the core's form. A set is not taken to cover what it has no exponent for.
-fn set_of(exps: &ExpSet) -> sets::ExpSet {
+/// A slot's exponents in the core's form. Where any are asked for, a set is not taken to cover a bin that it
+/// has no exponent for.
+fn set_of(asked: &SlotAlloc) -> sets::ExpSet {
+    let exps = asked.exps;
+    let covered = match asked.start < asked.end {
+        true => exps.end.min(exps.exp.len()),
+        false => exps.end,
+    };
     sets::ExpSet {
         exp: exponents(&exps.exp),
         start: Bin(exps.start),
-        end: Bin(exps.end.min(exps.exp.len())),
+        end: Bin(covered),
     }
 }
 
@@ -214,29 +226,46 @@ fn given<'a>(
     Ok(given)
 }
 
+/// As many of each slot's pointers as the original has. It looks at no start in a quiet block, and has the bins
+/// below the start elsewhere.
+///
+/// # Errors
+/// With 6 where there would be too many.
+fn answered(
+    slots: &[SlotAlloc<'_>],
+    pointers: &core::Block,
+    quiet: bool,
+) -> std::result::Result<[Vec<u8>; SLOTS], Refusal> {
+    let mut out: [Vec<u8>; SLOTS] = Default::default();
+    for asked in slots {
+        let len = match quiet {
+            true => asked.end,
+            false => asked.end.max(asked.start),
+        };
+        out[asked.slot] = first(&pointers[asked.slot], len)?;
+    }
+    Ok(out)
+}
+
 /// The pointers of a block's slots; nothing for a slot that was not asked for.
 ///
 /// # Errors
 /// In this order: with 6 where a slot is above 6, or asked for twice; then as the core refuses: 21, 11, 10,
-/// and slot by slot 12, 10, 6, 8.
+/// and slot by slot 12, 10, 6, 8; last with 6 where a slot would have more than 65,536 pointers.
 pub fn allocate_block(
     st: &AllocState,
     fscod: usize,
     slots: &[SlotAlloc<'_>],
 ) -> Result<[Vec<u8>; SLOTS]> {
-    let sets: Vec<sets::ExpSet> = slots.iter().map(|asked| set_of(asked.exps)).collect();
+    let sets: Vec<sets::ExpSet> = slots.iter().map(set_of).collect();
     let fscod = u8::try_from(fscod).unwrap_or(u8::MAX);
     let mut pointers = [[0; BINS]; SLOTS];
     given(slots, &sets)
         .and_then(|given| {
             core::allocate_block(&st.state(), fscod, &given, &lent::tables(), &mut pointers)
         })
-        .map_err(|refusal| refused("allocation", refusal))?;
-    let mut out: [Vec<u8>; SLOTS] = Default::default();
-    for asked in slots {
-        out[asked.slot] = first(&pointers[asked.slot], asked.end.max(asked.start));
-    }
-    Ok(out)
+        .and_then(|()| answered(slots, &pointers, st.is_quiet(slots)))
+        .map_err(|refusal| refused("allocation", refusal))
 }
 
 /// The open groups of codes 1, 2 and 4 in a block.

@@ -32,7 +32,7 @@
 //! | `read_tail` | 6: a total past the limit; 19: no room for the tail among 4,096 elements |
 //! | `read_exponents`, `read_delta`, `delta_code`, `allocate_block` | 6: a slot above 6 |
 //! | `AllocState::params`, `allocate_block` | 11: a code past its table, or more than 8 segments |
-//! | `allocate_block` | 6: a slot asked for twice, a range past bin 253; 8: an exponent outside 0 to 24; 12: fewer exponents than the range has; 21: tables not lent, or unfit |
+//! | `allocate_block` | 6: a slot asked for twice, a range past bin 253, more than 65,536 pointers; 8: an exponent outside 0 to 24; 12: fewer exponents than the range has; 21: tables not lent, or unfit |
 //! | `conventional`, `aht` | 6: a range that ends before its start, or past the codes or bin 256 |
 //!
 //! Where the signature has no `Result`, it panics, with the refusal's number, bit, words and name in the message:
@@ -45,15 +45,15 @@
 //! | `crc::append_frame_crc` | 20: under 2 bytes |
 //! | `Field::end` | 6: past every number |
 //! | `Cursor::close_span` | 6: a start past the cursor, or a cursor past its limit, or past what is sound of it |
-//! | `alloc::allocate` | 6: a table that is neither of TS's two, a range past bin 253; 8: an exponent outside 0 to 24, or not there; 11: a number that no code has, or more than 8 segments; 21: tables not lent, or unfit |
+//! | `alloc::allocate` | 6: a table that is neither of TS's two, a range past bin 253, more than 65,536 pointers; 8: an exponent outside 0 to 24, or not there; 11: a number that no code has, or more than 8 segments; 21: tables not lent, or unfit |
 //! | `frame::crc_status`, `fix_crcs` | 20: a length that is odd, above 4,096, or below 8 in AC-3 and 4 in E-AC-3 |
 //!
 //! # What is not from the proved functions
 //!
-//! `Writer`'s length, `ac3_five_eighths_bits`, the lookups of [`frame::Frame`], and the parameters that
-//! `AllocState::params` decodes (by document 01's code tables), since the core has no function for them. The
-//! [`Field`](syntax::Field) of an element that a parser reads is put together here, out of what the parser asks
-//! for, the cursor's bit and the value that the core reads.
+//! `Writer`'s length, `ac3_five_eighths_bits`, the lookups of [`frame::Frame`], how many pointers an allocation
+//! answers, and the parameters that `AllocState::params` decodes (by document 01's code tables), since the core
+//! has no function for them. The [`Field`](syntax::Field) of an element that a parser reads is put together here,
+//! out of what the parser asks for, the cursor's bit and the value that the core reads.
 #![forbid(unsafe_code)]
 
 pub mod alloc;

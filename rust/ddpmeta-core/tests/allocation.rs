@@ -73,6 +73,44 @@ fn a_block_refuses_ranges_and_exponents() {
     assert_eq!(refused(&short, (0, 9)), 12);
 }
 
+/// How many pointers a state has for a range of slot 0, or the number that it is refused with.
+#[track_caller]
+fn len(state: &AllocState, range: (usize, usize)) -> Result<usize, u8> {
+    let far = ExpSet {
+        exp: vec![0; 4],
+        start: 0,
+        end: usize::MAX,
+    };
+    match allocate_block(state, 0, &[slot(&far, range)]) {
+        Ok([pointers, ..]) => Ok(pointers.len()),
+        refusal => Err(refuses(refusal)),
+    }
+}
+
+/// The set has four exponents, and says that it covers every bin.
+#[test]
+fn a_block_has_as_many_pointers_as_the_original_up_to_a_bound() {
+    lend();
+    let quiet = AllocState {
+        csnroffst: Some(0),
+        ..state()
+    };
+    for end in [0, 5, 300, 65_536] {
+        assert_eq!(len(&quiet, (10, end)), Ok(end));
+        assert_eq!(len(&quiet, (usize::MAX, end)), Ok(end));
+        assert_eq!(len(&state(), (end, end)), Ok(end));
+        assert_eq!(len(&state(), (end, 0)), Ok(end));
+    }
+    for end in [65_537, usize::MAX] {
+        assert_eq!(len(&quiet, (0, end)), Err(6));
+        assert_eq!(len(&quiet, (end, end)), Err(6));
+        assert_eq!(len(&state(), (end, 0)), Err(6));
+        assert_eq!(len(&state(), (end, end)), Err(6));
+    }
+    assert_eq!(len(&state(), (0, 4)), Ok(4));
+    assert_eq!(len(&state(), (4, 5)), Err(12));
+}
+
 #[test]
 fn a_channel_refuses_tables_ranges_and_exponents() {
     lend();
@@ -84,6 +122,13 @@ fn a_channel_refuses_tables_ranges_and_exponents() {
     }
     assert_eq!(taken(&channel(0)), []);
     assert_eq!(taken(&channel(253)).len(), 253);
+    let empty = |start| Channel {
+        start,
+        ..channel(5)
+    };
+    assert_eq!(taken(&empty(65_536)).len(), 65_536);
+    assert_eq!(panics(|| taken(&empty(65_537))), 6);
+    assert_eq!(panics(|| taken(&empty(usize::MAX))), 6);
 }
 
 #[test]
