@@ -1,18 +1,12 @@
 //! Syntax elements: a cursor that keeps every element that it reads, and the check that they tile a frame.
 
 use crate::error::{refused, taken, unfit, Result};
-use zelamodurk::syntax::{self as core, names, Place};
+use zelamodurk::syntax::{self as core, names, Place, MOST_BITS, POS, WIDTH};
 use zelamodurk::{Refusal, Why};
 
 pub use zelamodurk::syntax::Role;
+pub(crate) use zelamodurk::syntax::WORDS;
 
-/// The words of an element in the core's log.
-pub(crate) const WORDS: usize = 8;
-/// Where an element's position and width stand in them.
-const POS: usize = 4;
-const WIDTH: usize = 5;
-/// The most bits that a cursor of the core looks at.
-const MOST: usize = 32_768;
 /// A name's number that is none of the core's own: the text stays on this side.
 const GIVEN: u32 = 256;
 
@@ -119,7 +113,7 @@ impl<'a> Cursor<'a> {
     /// The part of the limit that is sound.
     #[inline]
     fn sound(&self) -> usize {
-        self.limit.min(8 * self.data.len().min(MOST / 8))
+        self.limit.min(8 * self.data.len().min(MOST_BITS / 8))
     }
 
     /// The cursor's numbers before a log of so many elements.
