@@ -13,8 +13,9 @@ use zelamodurk::frame::Codec;
 
 pub use refusal::Refusal;
 
-/// How many damaged copies there are of each frame.
-const COPIES: usize = 200;
+/// How many damaged copies there are of each frame; few under an emulator, where each element read is sent to
+/// another process.
+const COPIES: usize = if zelamodurk::EMULATED { 20 } else { 200 };
 /// How many frames of random bits are made for each copy of a frame.
 const MADE: usize = 300;
 
