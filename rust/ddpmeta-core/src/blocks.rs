@@ -113,14 +113,11 @@ impl AllocState {
             cplsleak,
             ..State::default()
         };
-        // Most slots have no segments, and the default has none.
-        let with = self
-            .delta
-            .iter()
-            .enumerate()
-            .filter(|(_, of)| !of.is_empty());
-        for (slot, segments) in with {
-            state.delta[slot] = delta(segments);
+        for (to, from) in state.delta.iter_mut().zip(&self.delta) {
+            // Most slots have no segments, as the default has none.
+            if !from.is_empty() {
+                *to = delta(from);
+            }
         }
         state
     }

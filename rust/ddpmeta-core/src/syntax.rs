@@ -167,9 +167,9 @@ impl<'a> Cursor<'a> {
         done.map_err(|refusal| refused(what, self.told(refusal)))
     }
 
-    /// Reads an element. It is not logged by the core, whose log would come back with what was asked for: a
-    /// log with room for the element refuses nothing that a read without one does not.
-    // In each of the readers below, since most know the role and the width.
+    /// Reads an element, and keeps what was asked for with the cursor's bit and the value. The core's log of it
+    /// would hold the same, and while it has room refuses nothing more; so it is lent none.
+    // A copy in each of the readers below, most of which know the role and the width.
     #[inline(always)]
     fn read(&mut self, name: &'static str, role: Role, index: i16, width: usize) -> Result<u32> {
         let pos = self.pos;
