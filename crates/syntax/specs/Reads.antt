@@ -88,10 +88,8 @@ valueAt frame words p width =
 unfoldable pub readOf : List ℕ → Standing → Ask → Ran Standing ℕ
 readOf frame st a =
     let p = st .place in
-    let v = bitsAt frame (p .pos) (a .width) in
-    settle st (logged st (elementOf p (p .pos) a v) (p .pos + a .width))
-    (refuseIf (ltb 32 (a .width)) 6 (p .pos)
-    (andThen (fits (length frame) (length (st .log)) p (a .width)) (λ _. taken v)))
+    settle st (logged st (elementOf p (p .pos) a (bitsAt frame (p .pos) (a .width))) (p .pos + a .width))
+    (valueAt frame (length (st .log)) p (a .width))
 
 -- the place after n bits
 abbrev pub ahead : Place → ℕ → Place
