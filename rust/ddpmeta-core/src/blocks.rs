@@ -254,15 +254,25 @@ pub fn allocate_block(
     fscod: usize,
     slots: &[SlotAlloc<'_>],
 ) -> Result<[Vec<u8>; SLOTS]> {
-    let sets: Vec<sets::ExpSet> = slots.iter().map(set_of).collect();
     let fscod = u8::try_from(fscod).unwrap_or(u8::MAX);
+    let allocated = match slots {
+        [] => core::allocate_none(&st.state(), fscod, &lent::tables()).map(|()| Default::default()),
+        slots => allocated(st, fscod, slots),
+    };
+    allocated.map_err(|refusal| refused("allocation", refusal))
+}
+
+/// The pointers of a block that asks for slots.
+fn allocated(
+    st: &AllocState,
+    fscod: u8,
+    slots: &[SlotAlloc<'_>],
+) -> std::result::Result<[Vec<u8>; SLOTS], Refusal> {
+    let sets: Vec<sets::ExpSet> = slots.iter().map(set_of).collect();
+    let given = given(slots, &sets)?;
     let mut pointers = [[0; BINS]; SLOTS];
-    given(slots, &sets)
-        .and_then(|given| {
-            core::allocate_block(&st.state(), fscod, &given, &lent::tables(), &mut pointers)
-        })
-        .and_then(|()| answered(slots, &pointers, st.is_quiet(slots)))
-        .map_err(|refusal| refused("allocation", refusal))
+    core::allocate_block(&st.state(), fscod, &given, &lent::tables(), &mut pointers)?;
+    answered(slots, &pointers, st.is_quiet(slots))
 }
 
 /// The open groups of codes 1, 2 and 4 in a block.

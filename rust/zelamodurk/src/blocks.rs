@@ -147,14 +147,17 @@ pub(crate) struct Plain {
 }
 
 impl Plain {
+    /// No slot at all.
+    pub const NONE: Plain = Plain {
+        present: [false; SLOTS],
+        high: [false; SLOTS],
+        exponents: [[0; BINS]; SLOTS],
+        ranges: [[0; 4]; SLOTS],
+    };
+
     #[inline]
     pub fn of(slots: &Slots) -> Plain {
-        let mut plain = Plain {
-            present: [false; SLOTS],
-            high: [false; SLOTS],
-            exponents: [[0; BINS]; SLOTS],
-            ranges: [[0; 4]; SLOTS],
-        };
+        let mut plain = Plain::NONE;
         for (n, slot) in slots.iter().enumerate() {
             if let Some(slot) = slot {
                 let set = slot.exponents;
@@ -216,6 +219,17 @@ pub fn allocate_block(
     pointers: &mut Block,
 ) -> Result<(), Refusal> {
     core::allocate_block(state, fscod, slots, tables, pointers)
+}
+
+/// What [`allocate_block`] comes to for a block that asks for no slot, which has no pointers: most blocks of a
+/// frame with AHT ask for none.
+///
+/// # Errors
+/// In this order: 21 where a table is unfit; 11 where a code that was sent, or one of a slot, is past its table;
+/// 10 where csnroffst was not sent, and where the five parameters were not. The bit is 0.
+#[inline]
+pub fn allocate_none(state: &State, fscod: u8, tables: &Tables) -> Result<(), Refusal> {
+    core::allocate_none(state, fscod, tables)
 }
 
 #[cfg(test)]

@@ -24,5 +24,6 @@ pub use elements::{
 };
 #[cfg(feature = "cursor")]
 pub use slots::{
-    aht, allocate, allocate_block, conventional, delta_code, read_delta, read_exponents,
+    aht, allocate, allocate_block, allocate_none, conventional, delta_code, read_delta,
+    read_exponents,
 };

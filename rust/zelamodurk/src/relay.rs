@@ -23,7 +23,8 @@ pub use elements::{
 };
 #[cfg(feature = "cursor")]
 pub use slots::{
-    aht, allocate, allocate_block, conventional, delta_code, read_delta, read_exponents,
+    aht, allocate, allocate_block, allocate_none, conventional, delta_code, read_delta,
+    read_exponents,
 };
 
 /// The kit's folder for this machine, and the program: the build script made it.

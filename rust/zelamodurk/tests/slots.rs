@@ -180,6 +180,22 @@ fn a_block_has_pointers_for_the_slots_that_are_there() {
     assert_eq!(pointers, [[0; BINS]; SLOTS]);
 }
 
+#[test]
+fn a_block_with_no_slot_is_tested_as_any_other() {
+    let mut past = sent();
+    past.fgaincod[6] = 8;
+    for state in [sent(), State::default(), past] {
+        let mut pointers = [[7; BINS]; SLOTS];
+        for fscod in [0, 3] {
+            let none = blocks::allocate_none(&state, fscod, &TABLES);
+            let slots = [None; SLOTS];
+            let block = blocks::allocate_block(&state, fscod, &slots, &TABLES, &mut pointers);
+            assert_eq!(none, block);
+        }
+    }
+    assert_eq!(blocks::allocate_none(&sent(), 0, &TABLES), Ok(()));
+}
+
 /// Numbers at which a sum, a product or a cast could go wrong.
 const EXTREMES: [usize; 9] = [
     0,

@@ -8,6 +8,7 @@ use crate::exponents::{Ask, ExpSet};
 use crate::refusal::{outcome, Refusal};
 use crate::syntax::Place;
 use crate::walks::Groups;
+use std::mem::MaybeUninit;
 
 extern "C" {
     fn zela_allocate(
@@ -270,22 +271,44 @@ pub fn allocate_block(
     tables: &Tables,
     pointers: &mut Block,
 ) -> Result<(), Refusal> {
-    let plain = blocks::Plain::of(slots);
+    // SAFETY: it is a block.
+    unsafe { allocated(state, fscod, &blocks::Plain::of(slots), tables, pointers) }
+}
+
+#[inline]
+pub fn allocate_none(state: &State, fscod: u8, tables: &Tables) -> Result<(), Refusal> {
+    static NONE: blocks::Plain = blocks::Plain::NONE;
+    // Not filled twice: the core writes zeros to it, and nobody looks at them.
+    let mut pointers = MaybeUninit::uninit();
+    // SAFETY: it has room for a block.
+    unsafe { allocated(state, fscod, &NONE, tables, pointers.as_mut_ptr()) }
+}
+
+/// # Safety
+/// `pointers` has room for a block, which is written.
+#[inline]
+unsafe fn allocated(
+    state: &State,
+    fscod: u8,
+    slots: &blocks::Plain,
+    tables: &Tables,
+    pointers: *mut Block,
+) -> Result<(), Refusal> {
     let mut bit = 0;
     // SAFETY: as the module says.
     let number = unsafe {
         zela_allocate_block(
             state,
             fscod,
-            plain.present.as_ptr(),
-            plain.high.as_ptr(),
-            plain.exponents.as_flattened().as_ptr(),
-            plain.ranges.as_flattened().as_ptr(),
+            slots.present.as_ptr(),
+            slots.high.as_ptr(),
+            slots.exponents.as_flattened().as_ptr(),
+            slots.ranges.as_flattened().as_ptr(),
             tables.hearing.as_ptr(),
             tables.hearing.len(),
             tables.log_add.as_ptr(),
             tables.log_add.len(),
-            pointers.as_flattened_mut().as_mut_ptr(),
+            pointers.cast(),
             &mut bit,
         )
     };

@@ -4,7 +4,7 @@ use super::elements::{log_bytes, set_log, signed, Function, LOG};
 use super::{call, room, size, BYTES, ROOM};
 use super::{Changed, Number, Read};
 use crate::alloc::{Bin, Channel, Plain, Tables, BINS};
-use crate::blocks::{self, Block, Slots, State};
+use crate::blocks::{self, Block, Slots, State, SLOTS};
 use crate::exponents::{Ask, ExpSet};
 use crate::refusal::{outcome, Refusal};
 use crate::syntax::Place;
@@ -207,4 +207,9 @@ pub fn allocate_block(
     ];
     let number = call(Function::AllocateBlock as u8, lent);
     outcome(number, usize::from_le_bytes(bit), ())
+}
+
+pub fn allocate_none(state: &State, fscod: u8, tables: &Tables) -> Result<(), Refusal> {
+    let mut pointers = [[0; BINS]; SLOTS];
+    allocate_block(state, fscod, &[None; SLOTS], tables, &mut pointers)
 }
