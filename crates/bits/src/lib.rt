@@ -88,7 +88,28 @@ fn cut(v: u64, spare: usize, n: usize) -> u32
     ((v >> spare) % top) as u32
 }
 
-// The n bits after the first off of byte first. They touch at most five bytes, which are taken at once where the buffer has so many.
+// The n bits after the first off of byte first, where there are five bytes, which is as many as they touch.
+fn early(s: &[u8], first: usize, off: usize, n: usize) -> u32
+    requires { ⌜ off < 8 ⌝ }
+    requires { ⌜ n ≤ 32 ⌝ }
+    requires { ⌜ first + 5 ≤ length (now s) ⌝ }
+    ensures { λ r. ⌜ r ≡ bitsAt (now (s .entry)) (8 * first + off) n ⌝ }
+{
+    cut(gather(s, first, 5), 40 - off - n, n)
+}
+
+// The same among the last bytes.
+fn late(s: &[u8], first: usize, off: usize, n: usize) -> u32
+    requires { ⌜ (off < 8) × (n ≤ 32) ⌝ }
+    requires { ⌜ length (now s) < first + 5 ⌝ }
+    requires { ⌜ 8 * first + off + n ≤ 8 * length (now s) ⌝ }
+    ensures { λ r. ⌜ r ≡ bitsAt (now (s .entry)) (8 * first + off) n ⌝ }
+{
+    let rest = s.len() - first;
+    cut(gather(s, first, rest), rest * 8 - off - n, n)
+}
+
+// The n bits after the first off of byte first.
 fn word(s: &[u8], first: usize, off: usize, n: usize) -> u32
     requires { ⌜ off < 8 ⌝ }
     requires { ⌜ n ≤ 32 ⌝ }
@@ -97,9 +118,9 @@ fn word(s: &[u8], first: usize, off: usize, n: usize) -> u32
 {
     let rest = s.len() - first;
     if 5 <= rest {
-        return cut(gather(s, first, 5), 40 - off - n, n);
+        return early(s, first, off, n);
     }
-    cut(gather(s, first, rest), rest * 8 - off - n, n)
+    late(s, first, off, n)
 }
 
 // Whether the n bits from pos on of len bytes may be read or set: 6 for a width above 32, then 1 for a range past the end.
@@ -117,14 +138,20 @@ fn fit(len: usize, pos: usize, n: usize) -> Put
     Put::Done
 }
 
-// The n bits from pos on, or 6 for a width above 32, or 1 for a range past the end.
+// The n bits from pos on, or 6 for a width above 32, or 1 for a range past the end, which a range with five bytes is not.
 pub fn get(s: &[u8], pos: usize, n: usize) -> Got
     ensures { λ r. ⌜ gotOf r ≡ getOf (now (s .entry)) pos n ⌝ }
 {
-    match fit(s.len(), pos, n) {
-        Put::Done => Got::Value(word(s, pos / 8, pos % 8, n)),
-        Put::Refused(r) => Got::Refused(r),
+    if 32 < n {
+        return Got::Refused(wide());
     }
+    if pos / 8 + 5 <= s.len() {
+        return Got::Value(early(s, pos / 8, pos % 8, n));
+    }
+    if passes(s.len(), pos, n) {
+        return Got::Refused(past());
+    }
+    Got::Value(late(s, pos / 8, pos % 8, n))
 }
 
 // The byte x with its bit off, counted from the top, made b.
