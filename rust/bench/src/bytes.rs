@@ -1,7 +1,7 @@
 //! Bits of lent bytes, and CRC-16.
 
 use crate::rust::bytes as rust;
-use crate::{measure, Ask, BYTES, FRAME};
+use crate::{measure, Ask, A_TENTH, BYTES, FRAME};
 use std::hint::black_box;
 use zelamodurk::{bits, crc};
 
@@ -104,7 +104,7 @@ fn range_zero() {
     let zeros = [0; BYTES];
     measure(
         "range_zero of 32,000 bits",
-        1.0,
+        A_TENTH,
         1,
         || {
             let _ = black_box(bits::range_zero(black_box(&zeros), FROM, RANGE));

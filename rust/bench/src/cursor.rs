@@ -1,7 +1,7 @@
 //! The cursor and its log: reads, spans, tiling, and what a role is.
 
 use crate::rust::cursor::{self as rust, Reader};
-use crate::{measure, BYTES};
+use crate::{measure, A_TENTH, BYTES};
 use std::hint::black_box;
 use zelamodurk::syntax::{self, names, Place, Role};
 
@@ -73,7 +73,7 @@ fn read_raw(frame: &[u8]) {
     let mut reader = Reader::new(frame);
     measure(
         "raw read of 5 bits",
-        1.5,
+        A_TENTH,
         ELEMENTS,
         || {
             let mut place = begin;
@@ -97,7 +97,7 @@ fn span(frame: &[u8]) {
     let (name, role) = SPANNED;
     measure(
         "span",
-        1.5,
+        A_TENTH,
         ELEMENTS,
         || {
             let mut place = begin;
@@ -122,7 +122,7 @@ fn close_span(frame: &[u8]) {
     let (name, role) = SPANNED;
     measure(
         "closing of a span",
-        1.5,
+        A_TENTH,
         ELEMENTS,
         || {
             let mut place = begin;
@@ -167,7 +167,7 @@ fn roles(bytes: &[u8]) {
     let rusts: Vec<rust::Role> = chosen().map(|at| rust::ROLES[at]).collect();
     measure(
         "three tests of a role",
-        1.0,
+        A_TENTH,
         ours.len(),
         || {
             for role in &ours {

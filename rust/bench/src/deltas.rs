@@ -1,7 +1,7 @@
 //! Delta segments: their codes, and reading them.
 
 use crate::rust::deltas::Deltas;
-use crate::{measure, written};
+use crate::{measure, written, A_TENTH};
 use std::hint::black_box;
 use zelamodurk::alloc::SEGMENTS;
 use zelamodurk::blocks::{self, State, SLOTS};
@@ -26,7 +26,7 @@ fn delta_code(bytes: &[u8]) {
     let (mut state, mut rusts) = (State::default(), Deltas::new(&[]));
     measure(
         "delta code",
-        1.0,
+        A_TENTH,
         codes.len(),
         || {
             for (slot, code) in &codes {
@@ -52,7 +52,7 @@ fn read_delta(bytes: &[u8]) {
     let mut rusts = Deltas::new(&frame);
     measure(
         "8 delta segments",
-        1.5,
+        A_TENTH,
         1,
         || {
             let mut place = begin;
