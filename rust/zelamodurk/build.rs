@@ -1,5 +1,6 @@
 //! Builds the archives of the proved core with `rt staticlib`, and links them. On a machine that is not
-//! x86-64 it makes a program of them for the kit's emulator instead (src/relay.rs).
+//! x86-64 it makes a program of them for the kit's emulator instead (src/relay.rs). Archives that are
+//! there already, in the folder that `ZELAMODURK_ARCHIVES` names, are linked as they are.
 #![forbid(unsafe_code)]
 
 use std::env;
@@ -14,6 +15,8 @@ const BYTES: &str = "capi_bytes";
 const CURSOR: &str = "capi";
 /// The one target that the archives have code for.
 const TARGET: &str = "x86_64-unknown-linux-gnu";
+/// The variable that names a folder of archives to link, on a machine without the kit.
+const READY: &str = "ZELAMODURK_ARCHIVES";
 
 fn main() {
     if let Err(why) = build() {
@@ -25,17 +28,24 @@ fn main() {
 }
 
 fn build() -> Result<(), String> {
+    println!("cargo::rustc-check-cfg=cfg(linked)");
+    println!("cargo::rerun-if-env-changed={READY}");
+    match env::var_os(READY) {
+        Some(folder) => link_ready(Path::new(&folder), crates()),
+        None => build_archives(crates()),
+    }
+}
+
+fn build_archives(crates: &[&str]) -> Result<(), String> {
     let root = project_root()?;
     watch(&root)?;
     let (arch, os) = (set("CARGO_CFG_TARGET_ARCH")?, set("CARGO_CFG_TARGET_OS")?);
-    let linked = arch == "x86_64" && os == "linux";
-    let kit = if linked {
+    let kit = if arch == "x86_64" && os == "linux" {
         None
     } else {
         Some(Kit::for_machine(&arch, &os)?)
     };
     let out = PathBuf::from(set("OUT_DIR")?);
-    let crates = crates();
     let archives = archives(&root, &out, crates)?;
     match kit {
         None => link(&out, crates),
@@ -119,8 +129,25 @@ fn archive(root: &Path, out: &Path, name: &str) -> Result<PathBuf, String> {
     Ok(kept)
 }
 
-fn link(out: &Path, crates: &[&str]) {
-    println!("cargo::rustc-link-search=native={}", out.display());
+/// Links the archives of a folder that somebody made for this target.
+fn link_ready(folder: &Path, crates: &[&str]) -> Result<(), String> {
+    for name in crates {
+        let archive = folder.join(format!("lib{name}.a"));
+        if !(archive.is_absolute() && archive.is_file()) {
+            let at = archive.display();
+            return Err(format!(
+                "{READY} must name a folder by its whole path, with the archives in it; there is no {at}"
+            ));
+        }
+        println!("cargo::rerun-if-changed={}", archive.display());
+    }
+    link(folder, crates);
+    Ok(())
+}
+
+fn link(folder: &Path, crates: &[&str]) {
+    println!("cargo::rustc-cfg=linked");
+    println!("cargo::rustc-link-search=native={}", folder.display());
     for name in crates {
         println!("cargo::rustc-link-lib=static={name}");
     }

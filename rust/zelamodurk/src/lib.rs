@@ -27,24 +27,24 @@ pub mod blocks;
 pub mod crc;
 #[cfg(feature = "cursor")]
 pub mod exponents;
-#[cfg_attr(not(target_arch = "x86_64"), allow(dead_code, unused_imports))]
+#[cfg_attr(not(linked), allow(dead_code, unused_imports))]
 mod ffi;
 pub mod frame;
 mod refusal;
-#[cfg(not(target_arch = "x86_64"))]
+#[cfg(not(linked))]
 mod relay;
 #[cfg(feature = "cursor")]
 pub mod syntax;
 #[cfg(feature = "cursor")]
 pub mod walks;
 
-#[cfg(target_arch = "x86_64")]
+#[cfg(linked)]
 use ffi as core;
-#[cfg(not(target_arch = "x86_64"))]
+#[cfg(not(linked))]
 use relay as core;
 
 pub use refusal::{Refusal, Why};
 
 /// Whether the core runs under the kit's emulator, since the archives hold x86-64 code alone.
 /// Times say nothing then.
-pub const EMULATED: bool = cfg!(not(target_arch = "x86_64"));
+pub const EMULATED: bool = cfg!(not(linked));
