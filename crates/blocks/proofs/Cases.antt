@@ -6,12 +6,10 @@ use mathlib.Core.List.{List, [], _∷_}
 use mathlib.Core.Bool.{Bool, true, false, cond, not, _&&_}
 use native.Mathlib.Omega.{arith}
 use lib.Dec.{eqb}
-use lib.ListN.{length, getD, replicate}
+use lib.ListN.{length, getD}
 use borrow.Author.Tests.{ne-eqb}
 use Rattle.refusal.specs.declared.Refusal.{Refusal}
 use Rattle.refusal.specs.Refusals.{Grounds, Outcome, taken, refused, grounds, told, refuseIf, andThen, Ran}
-use Rattle.bits.specs.declared.Put.{Put}
-use Rattle.bits.specs.Answers.{doneOf}
 use Rattle.tables.specs.declared.Delta.{Delta}
 use Rattle.tables.specs.declared.Pointers.{Pointers}
 use Rattle.tables.specs.Bands.{zeros}
@@ -20,17 +18,17 @@ use Rattle.alloc.specs.declared.Codes.{Codes}
 use Rattle.alloc.specs.declared.Leak.{Leak}
 use Rattle.alloc.specs.declared.Ended.{Ended}
 use Rattle.alloc.specs.declared.Ended.the-variants as ended
-use Rattle.alloc.specs.declared.Allocated.{Allocated as Allocated₁}
-use Rattle.alloc.specs.Table.{from, table}
+use Rattle.alloc.specs.declared.Allocated.{Allocated}
 use Rattle.alloc.specs.Answers.{filled, endedOf, allocatedOf, allocateOf}
 use Rattle.blocks.specs.declared.AllocState.{AllocState}
-use Rattle.blocks.specs.declared.Slot.{Slot}
-use Rattle.blocks.specs.declared.Channel.{Channel}
-use Rattle.blocks.specs.declared.Allocated.{Allocated}
-use Rattle.blocks.specs.Block.{codesFit, quiet, noDelta, codesAt, leakAt, deltaAt, pointersBy, uncovered, slotOf, left, channel, slotsFrom, silence, blockOf, filledSlots, allocateBlockOf}
+use Rattle.blocks.specs.Block.{Slot, codesFit, quiet, noDelta, codesAt, leakAt, deltaAt, pointersBy, uncovered, slotOf, left, slotsFrom, silence, filledSlots, allocateBlockOf}
+
+-- what a call comes to, by its parts
+pub ran-is : {S : Type 0} {o p : Outcome Unit} {a b : S} → o ≡ p → a ≡ b → _≡_ {A = Ran S Unit} (record { outcome = o; state = a }) (record { outcome = p; state = b })
+ran-is e f = λ i. record { outcome = e i; state = f i }
 
 -- what a slot's answer says of what it comes to
-module _ (r : Allocated₁) {q : Ran (List ℕ) Unit} (e : allocatedOf r ≡ q) where
+module _ (r : Allocated) {q : Ran (List ℕ) Unit} (e : allocatedOf r ≡ q) where
   pub slot-taken : r .answer ≡ ended.Done → left q ≡ taken (r .bap)
   slot-taken d = sym (ap (λ x. left x) e) ∙ ap (λ (a : Ended). andThen (endedOf a) (λ _. taken (r .bap))) d
 
@@ -64,17 +62,10 @@ module _ (st : AllocState) (fscod : ℕ) (hearing logAdd : List ℕ) (i : ℕ) (
       slot-10 l = rw (u, l, h)
 
       -- the channel alone, with what the slot hands to it
-      pub slot-alone : (eqb i 5 && not (st .«cplleak_sent»)) ≡ false → (k : Codes) (l : Leak) (d : Delta) (w : Pointers)
-          → k ≡ codesAt st fscod i → l ≡ leakAt st i → d ≡ deltaAt st i → w ≡ pointersBy (s .high)
-          → allocateOf (s .exp) (s .start) (s .end) k l d w hearing logAdd ≡ slotOf st fscod hearing logAdd i s
+      pub slot-alone : (eqb i 5 && not (st .«cplleak_sent»)) ≡ false
+          → allocateOf (s .exp) (s .start) (s .end) (codesAt st fscod i) (leakAt st i) (deltaAt st i) (pointersBy (s .high)) hearing logAdd ≡ slotOf st fscod hearing logAdd i s
       unfolding slotOf
-      slot-alone n k l d w ek el ed ew =
-          (λ j. allocateOf (s .exp) (s .start) (s .end) (ek j) (el j) (ed j) (ew j) hearing logAdd) ∙ rw (u, n, h)
-
--- an answer's meaning, by its parts
-pub block-is : (r : Allocated) {a : Put} {cs : List Channel} → r .answer ≡ a → r .slot ≡ cs
-    → blockOf r ≡ record { outcome = doneOf a; state = cs }
-block-is r e f = λ i. record { outcome = doneOf (e i); state = f i }
+      slot-alone l = rw (u, l, h)
 
 -- the cases of the tests that look at no slot
 module _ (st : AllocState) (fscod : ℕ) (slots : List Slot) (hearing logAdd : List ℕ) where
@@ -102,7 +93,7 @@ module _ (st : AllocState) (fscod : ℕ) (slots : List Slot) (hearing logAdd : L
         unfolding allocateBlockOf
         block-tested b = rw (t, k, c, b)
 
-abbrev pub outcome : Ran (List Channel) Unit → Outcome Unit
+abbrev pub outcome : Ran (List (List ℕ)) Unit → Outcome Unit
 outcome r = r .outcome
 
 -- a block that has no slot: what it comes to
@@ -128,7 +119,7 @@ module _ (st : AllocState) (fscod : ℕ) (hearing logAdd : List ℕ) where
   block-after slots =
       each (not (tablesFit hearing logAdd)) (not (codesFit st fscod)) (not (st .«csnroffst_sent»)) (not (st .«bai_sent»)) _ _ (empty (quiet st []))
     where
-      each : (t k c b : Bool) (x y : Outcome (List Channel)) → taken tt ≡ filledSlots y .outcome
+      each : (t k c b : Bool) (x y : Outcome (List (List ℕ))) → taken tt ≡ filledSlots y .outcome
           → filledSlots (refuseIf t 21 0 (refuseIf k 11 0 (refuseIf c 10 0 (refuseIf b 10 0 x))))
           ≡ filledSlots (andThen (filledSlots (refuseIf t 21 0 (refuseIf k 11 0 (refuseIf c 10 0 (refuseIf b 10 0 y)))) .outcome) (λ _. x))
       each true k c b x y e = refl
@@ -140,7 +131,7 @@ module _ (st : AllocState) (fscod : ℕ) (hearing logAdd : List ℕ) where
 -- the cases of a block
 module _ (st : AllocState) (fscod : ℕ) (slots : List Slot) (hearing logAdd : List ℕ) where
   -- what the first tests come to, and what is then known of the slots
-  abbrev rest : Outcome Unit → Bool → Ran (List Channel) Unit
+  abbrev rest : Outcome Unit → Bool → Ran (List (List ℕ)) Unit
   rest o q = filledSlots (andThen o (λ _. cond q (taken silence) (slotsFrom st fscod hearing logAdd 0 slots)))
 
   block-by : {o : Outcome Unit} {q : Bool} → o ≡ noneOf st fscod hearing logAdd → quiet st slots ≡ q
@@ -157,28 +148,3 @@ module _ (st : AllocState) (fscod : ℕ) (slots : List Slot) (hearing logAdd : L
     pub block-slots : quiet st slots ≡ false
         → filledSlots (slotsFrom st fscod hearing logAdd 0 slots) ≡ allocateBlockOf st fscod slots hearing logAdd
     block-slots h = block-by e h
-
--- a block whose slots are all not there
-module _ (st : AllocState) (fscod : ℕ) (hearing logAdd : List ℕ) (f : ℕ → Slot) (h : (i : ℕ) → f i .present ≡ false) where
-  absent-slots : (i n : ℕ) → slotsFrom st fscod hearing logAdd i (from i n f) ≡ taken (replicate n (channel zeros))
-  unfolding slotsFrom from
-  absent-slots i zero = refl
-  absent-slots i (suc n) =
-      λ j.
-      andThen (left (sym (slot-absent st fscod hearing logAdd i (f i) (h i)) j)) (λ bap.
-      andThen (absent-slots (suc i) n j) (λ rest.
-      taken (channel bap ∷ rest)))
-
-  pub block-none : record { outcome = noneOf st fscod hearing logAdd; state = silence } ≡ allocateBlockOf st fscod (table 7 f) hearing logAdd
-  block-none =
-      silent (noneOf st fscod hearing logAdd)
-      ∙ ap (λ (o : Outcome (List Channel)). filledSlots (andThen (noneOf st fscod hearing logAdd) (λ _. o))) (either (quiet st (table 7 f)))
-      ∙ sym (block-after st fscod hearing logAdd (table 7 f))
-    where
-      silent : (o : Outcome Unit) → record { outcome = o; state = silence } ≡ filledSlots (andThen o (λ _. taken silence))
-      silent (taken a) = refl
-      silent (refused g) = refl
-
-      either : (q : Bool) → taken silence ≡ cond q (taken silence) (slotsFrom st fscod hearing logAdd 0 (table 7 f))
-      either true = refl
-      either false = sym (absent-slots 0 7)

@@ -13,14 +13,9 @@ use Rattle.bits.specs.declared.Put.{Put}
 use Rattle.bits.specs.Answers.{doneOf}
 use Rattle.bits.proofs.Unique.{doneBack, done-back}
 use Rattle.blocks.specs.declared.AllocState.{AllocState}
-use Rattle.blocks.specs.declared.Channel.{Channel}
-use Rattle.blocks.specs.declared.Allocated.{Allocated}
 use Rattle.blocks.specs.declared.Told.{Told}
 use Rattle.blocks.specs.declared.DeltaRead.{DeltaRead}
-use Rattle.blocks.specs.Block.{blockOf}
 use Rattle.blocks.specs.Side.{Stood, toldOf}
-use Rattle.blocks.proofs.allocate_none.Kinds as allocate-none-kinds
-use Rattle.blocks.proofs.allocate_none.Reads as allocate-none-reads
 use Rattle.blocks.proofs.allocate_block.Kinds as allocate-block-kinds
 use Rattle.blocks.proofs.allocate_block.Reads as allocate-block-reads
 use Rattle.blocks.proofs.delta_code.Kinds as delta-code-kinds
@@ -29,12 +24,6 @@ use Rattle.blocks.proofs.read_delta.Kinds as read-delta-kinds
 use Rattle.blocks.proofs.read_delta.Reads as read-delta-reads
 
 -- each answer's meaning leads back to it
-abbrev pub blockBack : Ran (List Channel) Unit → Allocated
-blockBack w = record { answer = doneBack (w .outcome); slot = w .state }
-
-pub block-back : (r : Allocated) → blockBack (blockOf r) ≡ r
-block-back r = ap (λ (a : Put). record { answer = a; slot = r .slot }) (done-back (r .answer))
-
 abbrev pub toldBack : Ran AllocState Unit → Told
 toldBack w = record { answer = doneBack (w .outcome); state = w .state }
 
@@ -45,11 +34,11 @@ abbrev readBack : Ran Stood Unit → DeltaRead
 readBack w = record { answer = doneBack (w .outcome); place = w .state .standing .place; state = w .state .state }
 
 -- any two results that a contract allows are equal; the contracts are read from the code
-pub allocate-none-one : Decides 2 allocate-none-kinds.ps allocate-none-kinds.r allocate-none-reads.Post
-allocate-none-one κs a x y s t = one-answer doneOf doneBack done-back x y
-
-pub allocate-block-one : Decides 2 allocate-block-kinds.ps allocate-block-kinds.r allocate-block-reads.Post
-allocate-block-one κs a x y s t = one-answer blockOf blockBack block-back x y
+pub allocate-block-one : (κs : Lfts 7) (a : Dens κs allocate-block-kinds.ps) (x y : Put) (s t : AtExit (endedOf 7 allocate-block-kinds.ps allocate-block-kinds.r) κs)
+    → allocate-block-reads.Post κs a x s → allocate-block-reads.Post κs a y t → (x ≡ y) × (now (s .1 .1 .1 .1 .1 .1 .1 .1 .0) ≡ now (t .1 .1 .1 .1 .1 .1 .1 .1 .0))
+allocate-block-one κs a x y s t p q =
+    let e = p ∙ sym q in
+    (sym (done-back x) ∙ ap (λ w. doneBack (w .outcome)) e ∙ done-back y, ap (λ w. w .state) e)
 
 pub delta-code-one : Decides 0 delta-code-kinds.ps delta-code-kinds.r delta-code-reads.Post
 delta-code-one κs a x y s t = one-answer toldOf toldBack told-back x y

@@ -3,10 +3,11 @@
 -- Assumes nothing.
 use Prim.Native.Nat.{ℕ, suc}
 use mathlib.Core.List.{List, [], _∷_}
-use mathlib.Core.Bool.{Bool, true, cond, not, _&&_, _||_}
+use mathlib.Core.Bool.{Bool, true, false, cond, not, _&&_, _||_}
 use lib.Dec.{ltb, leb, eqb}
 use lib.ListN.{getD, replicate}
 use Rattle.refusal.specs.Refusals.{Outcome, taken, refused, refuseIf, andThen, Ran, thenRun}
+use Rattle.bits.specs.declared.Put.{Put}
 use Rattle.bits.specs.Answers.{doneOf}
 use Rattle.tables.specs.declared.Delta.{Delta}
 use Rattle.tables.specs.declared.Pointers.{Pointers}
@@ -16,11 +17,40 @@ use Rattle.tables.specs.Fits.{upto, tablesFit, deltaFits}
 use Rattle.alloc.specs.declared.Codes.{Codes}
 use Rattle.alloc.specs.declared.Leak.{Leak}
 use Rattle.alloc.specs.declared.Leak.the-variants as leak
+use Rattle.alloc.specs.Table.{table}
 use Rattle.alloc.specs.Answers.{filled, allocateOf}
 use Rattle.blocks.specs.declared.AllocState.{AllocState}
-use Rattle.blocks.specs.declared.Slot.{Slot}
-use Rattle.blocks.specs.declared.Channel.{Channel}
-use Rattle.blocks.specs.declared.Allocated.{Allocated}
+
+-- what a block asks for a slot: whether it is there, whether its pointers are hebap, its exponents, their range, and the range asked for
+pub record Slot : Type 0 where
+  pub present : Bool
+  pub high : Bool
+  pub exp : List ℕ
+  pub expStart : ℕ
+  pub expEnd : ℕ
+  pub start : ℕ
+  pub end : ℕ
+
+-- a slot with its two ranges as four numbers, each from its start to its end
+abbrev pub slotBy : Bool → Bool → List ℕ → List ℕ → Slot
+slotBy present high exp range =
+    record {
+      present = present;
+      high = high;
+      exp = exp;
+      expStart = getD range 0 0;
+      expEnd = getD range 1 0;
+      start = getD range 2 0;
+      end = getD range 3 0;
+    }
+
+-- slot i of what is asked for all slots
+unfoldable pub slotAt : List Bool → List Bool → List (List ℕ) → List (List ℕ) → ℕ → Slot
+slotAt present high exponents ranges i = slotBy (getD present i false) (getD high i false) (getD exponents i []) (getD ranges i [])
+
+-- the seven slots in order
+unfoldable pub asked : List Bool → List Bool → List (List ℕ) → List (List ℕ) → List Slot
+asked present high exponents ranges = table 7 (slotAt present high exponents ranges)
 
 -- 11 for the five parameters: "decays, slow gain, knee at most 3", and the floor at most 7
 unfoldable pub baiFits : AllocState → Bool
@@ -96,7 +126,7 @@ pointersBy high = cond high which.Hebap which.Bap
 
 -- 12: "exponent range doesn't cover the asked range"
 unfoldable pub uncovered : Slot → Bool
-uncovered s = ltb (s .start) (s .«exp_start») || ltb (s .«exp_end») (s .end)
+uncovered s = ltb (s .start) (s .expStart) || ltb (s .expEnd) (s .end)
 
 -- slot i: zeros where it is not present; else "12; 10 for leak", and the channel alone
 unfoldable pub slotOf : AllocState → ℕ → List ℕ → List ℕ → ℕ → Slot → Ran (List ℕ) Unit
@@ -113,32 +143,29 @@ slotOf st fscod hearing logAdd i s =
 abbrev pub left : {S : Type 0} → Ran S Unit → Outcome S
 left r = andThen (r .outcome) (λ _. taken (r .state))
 
-abbrev pub channel : List ℕ → Channel
-channel bap = record { bap = bap }
-
 -- the slots from slot i on, in order: the first refusal ends them
-unfoldable pub slotsFrom : AllocState → ℕ → List ℕ → List ℕ → ℕ → List Slot → Outcome (List Channel)
+unfoldable pub slotsFrom : AllocState → ℕ → List ℕ → List ℕ → ℕ → List Slot → Outcome (List (List ℕ))
 slotsFrom st fscod hearing logAdd i [] = taken []
 slotsFrom st fscod hearing logAdd i (s ∷ ss) =
     andThen (left (slotOf st fscod hearing logAdd i s)) (λ bap.
     andThen (slotsFrom st fscod hearing logAdd (suc i) ss) (λ rest.
-    taken (channel bap ∷ rest)))
+    taken (bap ∷ rest)))
 
 -- all slots zero
-abbrev pub silence : List Channel
-silence = replicate 7 (channel zeros)
+abbrev pub silence : List (List ℕ)
+silence = replicate 7 zeros
 
 -- what an answer means, with the pointers beside it
-abbrev pub blockOf : Allocated → Ran (List Channel) Unit
-blockOf r = record { outcome = doneOf (r .answer); state = r .slot }
+abbrev pub blockOf : Put → List (List ℕ) → Ran (List (List ℕ)) Unit
+blockOf r bap = record { outcome = doneOf r; state = bap }
 
 -- the pointers that were taken, and zeros on refusal
-abbrev pub filledSlots : Outcome (List Channel) → Ran (List Channel) Unit
+abbrev pub filledSlots : Outcome (List (List ℕ)) → Ran (List (List ℕ)) Unit
 filledSlots (taken slots) = record { outcome = taken tt; state = slots }
 filledSlots (refused g) = record { outcome = refused g; state = silence }
 
 -- 21; 11; 10 for csnroffst; 10 for the parameters; "all zero at once"; else the slots
-unfoldable pub allocateBlockOf : AllocState → ℕ → List Slot → List ℕ → List ℕ → Ran (List Channel) Unit
+unfoldable pub allocateBlockOf : AllocState → ℕ → List Slot → List ℕ → List ℕ → Ran (List (List ℕ)) Unit
 allocateBlockOf st fscod slots hearing logAdd =
     filledSlots
     (refuseIf (not (tablesFit hearing logAdd)) 21 0

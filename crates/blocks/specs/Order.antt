@@ -10,8 +10,7 @@ use lib.ListN.{length}
 use Rattle.refusal.specs.Refusals.{Outcome, taken, refused}
 use Rattle.tables.specs.Fits.{tablesFit}
 use Rattle.blocks.specs.declared.AllocState.{AllocState}
-use Rattle.blocks.specs.declared.Slot.{Slot}
-use Rattle.blocks.specs.Block.{codesFit, slotOf}
+use Rattle.blocks.specs.Block.{Slot, codesFit, slotOf}
 
 -- whether a number is one of these
 unfoldable pub among : ℕ → List ℕ → Bool

@@ -1,5 +1,6 @@
 // Side information and block allocation (TS 6.2.2; document 01, "Allocation"): what the blocks of a frame carry on, and the pointers of all
 // slots of a block. Slots 0 to 4 are the full bandwidth channels, 5 is coupling, 6 is LFE.
+use alloc::Allocated;
 use alloc::Codes;
 use alloc::Ended;
 use alloc::Leak;
@@ -15,16 +16,16 @@ use tables::Bin;
 use tables::Delta;
 use tables::Pointers;
 ghost use mathlib.Core.Path.{_≡_};
-ghost use mathlib.Core.List.{[]};
+ghost use mathlib.Core.List.{List, []};
 ghost use Rattle.bits.specs.Answers.{doneOf};
-ghost use Prim.Native.Nat.{_<_, _≤_, _+_};
-ghost use mathlib.Core.Bool.{not, _&&_, _||_};
-ghost use lib.Dec.{eqb};
+ghost use Prim.Native.Nat.{ℕ, _<_, _≤_, _+_};
+ghost use mathlib.Core.Bool.{Bool, not, _&&_, _||_};
+ghost use lib.Dec.{ltb, eqb};
 ghost use Rattle.refusal.specs.Refusals.{numberOf, grounds, taken, refused as refusedOf, andThen, thenRun};
 ghost use Rattle.syntax.specs.Reads.{standing, seenOf, readerOf};
 ghost use Rattle.tables.specs.Bands.{zeros};
-ghost use Rattle.alloc.specs.Answers.{allocatedOf, filled};
-ghost use Rattle.blocks.specs.Block.{baiFits, leakFits, ifSent, sentFit, othersFit, deltasFit, codesFit, quietFrom, quiet, noDelta, codesAt, leakAt, deltaAt, pointersBy, uncovered, slotOf, blockOf, filledSlots, silence, slotsFrom, allocateBlockOf};
+ghost use Rattle.alloc.specs.Answers.{endedOf, allocatedOf, allocateOf};
+ghost use Rattle.blocks.specs.Block.{baiFits, leakFits, ifSent, sentFit, othersFit, deltasFit, codesFit, quietFrom, quiet, noDelta, codesAt, leakAt, deltaAt, pointersBy, slotBy, asked, slotOf, blockOf, filledSlots, silence as silent, slotsFrom, allocateBlockOf};
 ghost use Rattle.blocks.specs.Side.{withDelta, toldOf, badCode, deltaCodeOf, fieldAsk, withSegment, segmentOf, segmentsOf, keptOf, readDeltaOf, over, gatheredOf, deltaReadOf};
 
 // The side information that a frame's blocks carry on, by its names in TS, not yet decoded. Beside what may be unsent stands whether it
@@ -44,33 +45,6 @@ pub struct AllocState {
     pub cplfleak: u8,
     pub cplsleak: u8,
     pub delta: [Delta; 7],
-}
-
-// What a block asks for a slot: whether it is there, whether its pointers are hebap, its exponents with their range, and the range asked for.
-pub struct Slot {
-    pub present: bool,
-    pub high: bool,
-    pub exp: [u8; 256],
-    pub exp_start: usize,
-    pub exp_end: usize,
-    pub start: usize,
-    pub end: usize,
-}
-
-// One entry a slot, so that none comes twice.
-pub struct Slots {
-    pub slot: [Slot; 7],
-}
-
-// The pointers of a slot.
-pub struct Channel {
-    pub bap: [u8; 256],
-}
-
-// The pointers of all slots: zeros for one that is not there, and all zeros on refusal.
-pub struct Allocated {
-    pub answer: Put,
-    pub slot: [Channel; 7],
 }
 
 // Whether the five parameters are in their tables.
@@ -177,13 +151,13 @@ fn is_quiet(present: bool, fsnroffst: u8) -> bool
     true
 }
 
-// Whether no slot that is there has a fine offset.
-fn quiet_slots(state: AllocState, slots: Slots) -> bool
-    ensures { λ r. ⌜ r ≡ quietFrom (state .fsnroffst) 0 (slots .slot) ⌝ }
+// Whether no slot that is there has a fine offset, whatever else is asked for it.
+fn quiet_slots(state: AllocState, present: &[bool; 7]) -> bool
+    ensures { λ r. ⌜ ((high : List Bool) (exponents ranges : List (List ℕ)) → r ≡ quietFrom (state .fsnroffst) 0 (asked (now (present .entry)) high exponents ranges)) ⌝ }
 {
     let mut i: usize = 0;
     while i < 7 {
-        if !is_quiet(slots.slot[i].present, state.fsnroffst[i]) {
+        if !is_quiet(present[i], state.fsnroffst[i]) {
             return false;
         }
         i += 1;
@@ -192,11 +166,11 @@ fn quiet_slots(state: AllocState, slots: Slots) -> bool
 }
 
 // Whether no offset is in use.
-fn all_quiet(state: AllocState, slots: Slots) -> bool
-    ensures { λ r. ⌜ r ≡ quiet state (slots .slot) ⌝ }
+fn all_quiet(state: AllocState, present: &[bool; 7]) -> bool
+    ensures { λ r. ⌜ ((high : List Bool) (exponents ranges : List (List ℕ)) → r ≡ quiet state (asked (now (present .entry)) high exponents ranges)) ⌝ }
 {
     if state.csnroffst == 0 {
-        return quiet_slots(state, slots);
+        return quiet_slots(state, present);
     }
     false
 }
@@ -265,13 +239,13 @@ fn pointers_of(high: bool) -> Pointers
 }
 
 // Whether the exponents don't cover the range asked for.
-fn is_uncovered(slot: Slot) -> bool
-    ensures { λ r. ⌜ r ≡ uncovered slot ⌝ }
+fn is_uncovered(exp_start: usize, exp_end: usize, start: usize, end: usize) -> bool
+    ensures { λ r. ⌜ r ≡ (ltb start «exp_start» || ltb «exp_end» end) ⌝ }
 {
-    if slot.exp_start > slot.start {
+    if exp_start > start {
         return true;
     }
-    slot.exp_end < slot.end
+    exp_end < end
 }
 
 // Whether a slot needs a leak that was not sent.
@@ -285,44 +259,55 @@ fn lacks_leak(state: AllocState, i: usize) -> bool
 }
 
 // A slot that is refused.
-fn refused_slot(why: Why) -> alloc::Allocated
-    ensures { λ r. ⌜ allocatedOf r ≡ filled (refusedOf (grounds (numberOf why) 0)) ⌝ }
+fn refused_slot(why: Why) -> Ended
+    ensures { λ r. ⌜ endedOf r ≡ refusedOf (grounds (numberOf why) 0) ⌝ }
 {
-    let bap: [u8; 256] = [0; 256];
     let r = Refusal { why: why, bit: 0 };
-    alloc::Allocated {
-        answer: Ended::Refused(r),
-        bap: bap,
-    }
+    Ended::Refused(r)
 }
 
-// A slot that is not there.
-fn absent_slot() -> alloc::Allocated
-    ensures { λ r. ⌜ allocatedOf r ≡ filled (taken zeros) ⌝ }
-{
-    let bap: [u8; 256] = [0; 256];
-    alloc::Allocated {
-        answer: Ended::Done,
-        bap: bap,
-    }
-}
-
-// One slot: 12 where its exponents don't cover the range, 10 for a leak not sent, then the channel alone.
-fn slot_of(
+// A slot's channel alone.
+fn channel_of(
     state: AllocState,
     fscod: u8,
     i: usize,
-    slot: Slot,
+    high: bool,
+    exp: &[u8; 256],
+    start: Bin,
+    end: Bin,
     hearing: &[u16],
     log_add: &[u8],
-) -> alloc::Allocated
+) -> Allocated
     requires { ⌜ i < 7 ⌝ }
-    ensures { λ r. ⌜ allocatedOf r ≡ slotOf state fscod (now (hearing .entry)) (now («log_add» .entry)) i slot ⌝ }
+    ensures { λ r. ⌜ allocatedOf r ≡ allocateOf (now (exp .entry)) (start .0) (end .0) (codesAt state fscod i) (leakAt state i) (deltaAt state i) (pointersBy high) (now (hearing .entry)) (now («log_add» .entry)) ⌝ }
 {
-    if !slot.present {
-        return absent_slot();
+    let codes = codes_of(state, fscod, i);
+    let leak = leak_of(state, i);
+    let delta = delta_of(state, i);
+    let which = pointers_of(high);
+    alloc::allocate(exp, start, end, codes, leak, delta, which, hearing, log_add)
+}
+
+// One slot, into its row of zeros: 12 where its exponents don't cover the range, 10 for a leak not sent, then the channel alone.
+fn fill_slot(
+    state: AllocState,
+    fscod: u8,
+    i: usize,
+    present: bool,
+    high: bool,
+    exp: &[u8; 256],
+    range: [usize; 4],
+    hearing: &[u16],
+    log_add: &[u8],
+    row: &mut [u8; 256],
+) -> Ended
+    requires { ⌜ (i < 7) × (now row ≡ zeros) ⌝ }
+    ensures { λ r. ⌜ allocatedOf (record { answer = r; bap = now (row .exit) }) ≡ slotOf state fscod (now (hearing .entry)) (now («log_add» .entry)) i (slotBy present high (now (exp .entry)) range) ⌝ }
+{
+    if !present {
+        return Ended::Done;
     }
-    let uncovered = is_uncovered(slot);
+    let uncovered = is_uncovered(range[0], range[1], range[2], range[3]);
     let lacks = lacks_leak(state, i);
     if uncovered {
         return refused_slot(Why::NotCovered);
@@ -330,63 +315,58 @@ fn slot_of(
     if lacks {
         return refused_slot(Why::NotSent);
     }
-    let exp = slot.exp;
-    let codes = codes_of(state, fscod, i);
-    let leak = leak_of(state, i);
-    let delta = delta_of(state, i);
-    let which = pointers_of(slot.high);
-    alloc::allocate(
-        &exp,
-        Bin(slot.start),
-        Bin(slot.end),
-        codes,
-        leak,
-        delta,
-        which,
-        hearing,
-        log_add,
-    )
+    let start = Bin(range[2]);
+    let end = Bin(range[3]);
+    let one = channel_of(state, fscod, i, high, exp, start, end, hearing, log_add);
+    let bap = one.bap;
+    *row = bap;
+    one.answer
 }
 
-// A block with this answer and no pointers.
-fn without(answer: Put) -> Allocated
-    ensures { λ r. ⌜ (r .answer ≡ answer) × (r .slot ≡ silence) ⌝ }
+// Zeros for every slot.
+fn silence(bap: &mut [[u8; 256]; 7])
+    ensures { λ r. ⌜ now (bap .exit) ≡ silent ⌝ }
 {
-    let zero = Channel { bap: [0; 256] };
-    Allocated {
-        answer: answer,
-        slot: [zero; 7],
-    }
+    let zero: [u8; 256] = [0; 256];
+    *bap = [zero; 7];
 }
 
-// The slots in order, up to the first that is refused.
-fn slots_of(
+// The slots in order, each into its row of zeros, up to the first that is refused.
+fn fill_slots(
     state: AllocState,
     fscod: u8,
-    slots: Slots,
+    present: &[bool; 7],
+    high: &[bool; 7],
+    exponents: &[[u8; 256]; 7],
+    ranges: &[[usize; 4]; 7],
     hearing: &[u16],
     log_add: &[u8],
-) -> Allocated
-    ensures { λ r. ⌜ blockOf r ≡ filledSlots (slotsFrom state fscod (now (hearing .entry)) (now («log_add» .entry)) 0 (slots .slot)) ⌝ }
+    bap: &mut [[u8; 256]; 7],
+) -> Put
+    requires { ⌜ now bap ≡ silent ⌝ }
+    ensures { λ r. ⌜ blockOf r (now (bap .exit)) ≡ filledSlots (slotsFrom state fscod (now (hearing .entry)) (now («log_add» .entry)) 0 (asked (now (present .entry)) (now (high .entry)) (now (exponents .entry)) (now (ranges .entry)))) ⌝ }
 {
-    let zero = Channel { bap: [0; 256] };
-    let mut out = [zero; 7];
     let mut i: usize = 0;
     while i < 7 {
-        let one = slot_of(state, fscod, i, slots.slot[i], hearing, log_add);
-        let answer = one.answer;
-        if let Ended::Refused(r) = answer {
-            return without(Put::Refused(r));
+        let one = fill_slot(
+            state,
+            fscod,
+            i,
+            present[i],
+            high[i],
+            &exponents[i],
+            ranges[i],
+            hearing,
+            log_add,
+            &mut bap[i],
+        );
+        if let Ended::Refused(r) = one {
+            silence(bap);
+            return Put::Refused(r);
         }
-        let bap = one.bap;
-        let channel = Channel { bap: bap };
-        out[i] = channel;
         i += 1;
     }
-    Allocated {
-        answer: Put::Done,
-        slot: out,
-    }
+    Put::Done
 }
 
 // A block that is refused whatever its slots ask.
@@ -397,9 +377,9 @@ fn refused(why: Why) -> Put
     Put::Refused(r)
 }
 
-// What a block comes to that has no slot, and what every block is tested for first: 21 for unfit tables, 11 for a code past its table, 10 for
-// csnroffst or the parameters not sent.
-pub fn allocate_none(state: AllocState, fscod: u8, hearing: &[u16], log_add: &[u8]) -> Put
+// What every block is tested for first, which is all that one without slots is tested for: 21 for unfit tables, 11 for a code past its table,
+// 10 for csnroffst or the parameters not sent.
+fn tested(state: AllocState, fscod: u8, hearing: &[u16], log_add: &[u8]) -> Put
     ensures { λ r. ⌜ doneOf r ≡ allocateBlockOf state fscod [] (now (hearing .entry)) (now («log_add» .entry)) .outcome ⌝ }
 {
     if !tables::tables_fit(hearing, log_add) {
@@ -417,25 +397,40 @@ pub fn allocate_none(state: AllocState, fscod: u8, hearing: &[u16], log_add: &[u
     Put::Done
 }
 
-// The pointers of a block's slots: what `allocate_none` refuses; zeros where no offset is in use; else slot by slot 12, 10 for the leak, and what
-// the channel alone answers.
+// The pointers of a block's slots, laid into the lent rows: what `tested` refuses; zeros where no offset is in use; else slot by slot 12, 10 for
+// the leak, and what the channel alone answers. On refusal all rows are zeros.
 pub fn allocate_block(
     state: AllocState,
     fscod: u8,
-    slots: Slots,
+    present: &[bool; 7],
+    high: &[bool; 7],
+    exponents: &[[u8; 256]; 7],
+    ranges: &[[usize; 4]; 7],
     hearing: &[u16],
     log_add: &[u8],
-) -> Allocated
-    ensures { λ r. ⌜ blockOf r ≡ allocateBlockOf state fscod (slots .slot) (now (hearing .entry)) (now («log_add» .entry)) ⌝ }
+    bap: &mut [[u8; 256]; 7],
+) -> Put
+    ensures { λ r. ⌜ blockOf r (now (bap .exit)) ≡ allocateBlockOf state fscod (asked (now (present .entry)) (now (high .entry)) (now (exponents .entry)) (now (ranges .entry))) (now (hearing .entry)) (now («log_add» .entry)) ⌝ }
 {
-    let first = allocate_none(state, fscod, hearing, log_add);
+    silence(bap);
+    let first = tested(state, fscod, hearing, log_add);
     if let Put::Refused(r) = first {
-        return without(Put::Refused(r));
+        return Put::Refused(r);
     }
-    if all_quiet(state, slots) {
-        return without(Put::Done);
+    if all_quiet(state, present) {
+        return Put::Done;
     }
-    slots_of(state, fscod, slots, hearing, log_add)
+    fill_slots(
+        state,
+        fscod,
+        present,
+        high,
+        exponents,
+        ranges,
+        hearing,
+        log_add,
+        bap,
+    )
 }
 
 // What a delta code or a reading of segments comes to, and the state after it.

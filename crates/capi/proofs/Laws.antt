@@ -18,14 +18,13 @@ use Rattle.walks.specs.Walk.{State, state}
 use Rattle.exponents.specs.declared.ExpSet.{ExpSet}
 use Rattle.exponents.specs.Reads.{Left, left}
 use Rattle.blocks.specs.declared.AllocState.{AllocState}
-use Rattle.blocks.specs.declared.Channel.{Channel}
 use Rattle.blocks.specs.Side.{Stood}
 use Rattle.convention.specs.Replies.{Told, told, toldOf, Reply, reply, replyOf}
 use Rattle.capi.specs.Standings.{stood, stoodOf, moved, movedOf, advanced, advancedOf}
 use Rattle.capi.specs.Walks.{carried, carriedOf}
 use Rattle.capi.specs.Sets.{unpacked, unpackedOf}
 use Rattle.capi.specs.States.{rowsAfter, kept, keptOf, gathered, gatheredOf}
-use Rattle.capi.specs.Blocks.{pointersOf, pointed, pointedOf}
+use Rattle.capi.specs.Blocks.{pointed, pointedOf}
 
 -- a call over a state, which is s after it: p is what its contract says, o what its answer means
 module _ {A : Type 0} {o : Outcome A} {place : Place} {log : List ℕ} {p : Ran Standing A} (e : record { outcome = o; state = standing place log } ≡ p) where
@@ -58,10 +57,10 @@ module _ {o : Outcome Unit} {place : Place} {log : List ℕ} {st : AllocState} {
       ap₂ (λ (w : Told) (rows : List (List ℕ)). record { moved = record { told = w; pos = place .pos; count = place .count; log = log }; rows = rows }) t laid
       ∙ ap (gatheredOf before) e
 
--- the same of a block, whose pointers are laid
-module _ {o : Outcome Unit} {slots : List Channel} {p : Ran (List Channel) Unit} {bap : List (List ℕ)} (laid : bap ≡ pointersOf slots) (e : record { outcome = o; state = slots } ≡ p) where
+-- the same of a block
+module _ {o : Outcome Unit} {bap : List (List ℕ)} {p : Ran (List (List ℕ)) Unit} (e : record { outcome = o; state = bap } ≡ p) where
   pub pointed-as : {k b : ℕ} → told k b ≡ toldOf o → pointed k b bap ≡ pointedOf p
-  pointed-as t = ap₂ (λ (w : Told) (rows : List (List ℕ)). record { told = w; bap = rows }) t laid ∙ ap pointedOf e
+  pointed-as t = ap (λ (w : Told). record { told = w; bap = bap }) t ∙ ap pointedOf e
 
 -- a state that ends at one position, whether the call is taken or refused
 settled : (s s′ : Standing) (o : Outcome Unit) → s′ .place .pos ≡ s .place .pos → settle s s′ o .state .place .pos ≡ s .place .pos

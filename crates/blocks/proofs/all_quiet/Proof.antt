@@ -8,11 +8,11 @@ use Rattle.blocks.proofs.all_quiet.Tie as tie
 
 returns : tie.Need-returns
 unfolding quiet
-returns c = rw (eq-eqb _ 0 (c .before .if1 .taken)) (c .quiet-slots .ensures)
+returns c high exponents ranges = rw (eq-eqb _ 0 (c .before .if1 .taken)) (c .quiet-slots .ensures high exponents ranges)
 
 returns-2 : tie.Need-returns-2
 unfolding quiet
-returns-2 c = rw (ne-eqb _ 0 (c .if1 .left))
+returns-2 c high exponents ranges = rw (ne-eqb _ 0 (c .if1 .left))
 
 pub all-quiet-spec : {M : Type 1} → statement M
 all-quiet-spec =

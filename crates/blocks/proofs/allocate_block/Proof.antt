@@ -1,52 +1,55 @@
--- `blocks::allocate_block` meets its contract: what a block without slots comes to, then the cases of the definition, in its order.
+-- `blocks::allocate_block` meets its contract: what every block is tested for first, then the cases of the definition, in its order.
 -- Assumes nothing.
-use mathlib.Core.Path.{sym, ap, _∙_}
+use mathlib.Core.Path.{refl, sym, ap, _∙_}
 use borrow.Author.Needs.{needs}
 use denote.Ref.{now}
 use Rattle.bits.specs.Answers.{doneOf}
-use Rattle.blocks.proofs.Cases.{block-is, block-stops, block-quiet, block-slots}
+use Rattle.blocks.specs.Block.{asked}
+use Rattle.blocks.proofs.Cases.{ran-is, block-stops, block-quiet, block-slots}
 use Rattle.blocks.proofs.allocate_block.Statement.{statement}
 use Rattle.blocks.proofs.allocate_block.Tie as tie
 
 returns : tie.Need-returns
 returns c =
-    let n = c .before .before .before .before in
-    let a = n .before .before .before .args in
-    block-is (c .without .result) (c .without .ensures .0) (c .without .ensures .1)
-    ∙ block-stops (a .state) (a .fscod) (a .slots .slot) (a .hearing .now) (a .log-add .now)
-    (sym (ap doneOf (c .before .before .first .given .1)) ∙ n .allocate-none .ensures)
+    let n = c .before .before .before in
+    let a = n .before .before .before .before .before .args in
+    ran-is refl (n .before .silence .ensures)
+    ∙ block-stops (a .state) (a .fscod) (asked (now (a .present)) (now (a .high)) (now (a .exponents)) (now (a .ranges))) (a .hearing .now) (a .log-add .now)
+    (sym (ap doneOf (c .before .first .given .1)) ∙ n .tested .ensures)
 
 returns-2 : tie.Need-returns-2
 returns-2 c =
-    let d = c .before .before .before in
+    let d = c .before .before in
     let n = d .before .before in
-    let a = n .before .before .before .args in
-    block-is (c .without2 .result) (c .without2 .ensures .0) (c .without2 .ensures .1)
-    ∙ block-quiet (a .state) (a .fscod) (a .slots .slot) (a .hearing .now) (a .log-add .now)
-    (sym (ap doneOf (d .enum-told .given .1)) ∙ n .allocate-none .ensures)
-    (sym (c .before .before .all-quiet .ensures) ∙ c .before .if1 .taken)
+    let a = n .before .before .before .before .before .args in
+    ran-is refl (n .before .silence .ensures)
+    ∙ block-quiet (a .state) (a .fscod) (asked (now (a .present)) (now (a .high)) (now (a .exponents)) (now (a .ranges))) (a .hearing .now) (a .log-add .now)
+    (sym (ap doneOf (d .enum-told .given .1)) ∙ n .tested .ensures)
+    (sym (c .before .all-quiet .ensures _ _ _) ∙ c .if1 .taken)
+
+fill-slots-requires : tie.Need-fill-slots-requires
+fill-slots-requires c κs = c .before .before .before .before .before .before .silence .ensures
 
 returns-3 : tie.Need-returns-3
 returns-3 c =
-    let d = c .before .before .before in
+    let d = c .before .before .before .before in
     let n = d .before .before in
-    let a = n .before .before .before .args in
-    c .slots-of .ensures
-    ∙ block-slots (a .state) (a .fscod) (a .slots .slot) (a .hearing .now) (a .log-add .now)
-    (sym (ap doneOf (d .enum-told .given .1)) ∙ n .allocate-none .ensures)
-    (sym (c .before .before .all-quiet .ensures) ∙ c .before .if1 .left)
+    let a = n .before .before .before .before .before .args in
+    c .fill-slots .ensures
+    ∙ block-slots (a .state) (a .fscod) (asked (now (a .present)) (now (a .high)) (now (a .exponents)) (now (a .ranges))) (a .hearing .now) (a .log-add .now)
+    (sym (ap doneOf (d .enum-told .given .1)) ∙ n .tested .ensures)
+    (sym (c .before .before .before .all-quiet .ensures _ _ _) ∙ c .before .before .if1 .left)
 
 pub allocate-block-spec : {M : Type 1} → statement M
 allocate-block-spec =
     tie.close
     (tie.spec
     (λ c κs. search needs)
-    (λ c. search needs)
     (λ c κs. search needs)
+    (λ c. search needs)
     returns
     (λ c. search needs)
     (λ c κs. search needs)
-    (λ c κs. search needs)
     returns-2
-    (λ c κs. search needs)
+    fill-slots-requires
     returns-3)

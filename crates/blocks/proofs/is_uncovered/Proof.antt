@@ -1,17 +1,14 @@
 -- `blocks::is_uncovered` meets its contract: the two tests, one after the other.
 -- Assumes nothing.
 use borrow.Author.Tests.{lt-ltb, le-ltb}
-use Rattle.blocks.specs.Block.{uncovered}
 use Rattle.blocks.proofs.is_uncovered.Statement.{statement}
 use Rattle.blocks.proofs.is_uncovered.Tie as tie
 
 returns : tie.Need-returns
-unfolding uncovered
 returns c = rw (lt-ltb _ _ (c .if1 .taken))
 
 returns-2 : tie.Need-returns-2
-unfolding uncovered
-returns-2 c = rw (le-ltb _ _ (c .before .if1 .left))
+returns-2 c = rw (le-ltb _ _ (c .if1 .left))
 
 pub is-uncovered-spec : {M : Type 1} → statement M
 is-uncovered-spec =
