@@ -11,11 +11,8 @@ use borrow.Author.Tests.{ne-eqb}
 use Rattle.refusal.specs.declared.Refusal.{Refusal}
 use Rattle.refusal.specs.Refusals.{Grounds, Outcome, taken, refused, grounds, told, refuseIf, andThen, Ran}
 use Rattle.tables.specs.declared.Delta.{Delta}
-use Rattle.tables.specs.declared.Pointers.{Pointers}
 use Rattle.tables.specs.Bands.{zeros}
 use Rattle.tables.specs.Fits.{tablesFit}
-use Rattle.alloc.specs.declared.Codes.{Codes}
-use Rattle.alloc.specs.declared.Leak.{Leak}
 use Rattle.alloc.specs.declared.Ended.{Ended}
 use Rattle.alloc.specs.declared.Ended.the-variants as ended
 use Rattle.alloc.specs.declared.Allocated.{Allocated}

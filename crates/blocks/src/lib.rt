@@ -379,7 +379,7 @@ fn refused(why: Why) -> Put
 
 // What every block is tested for first, which is all that one without slots is tested for: 21 for unfit tables, 11 for a code past its table,
 // 10 for csnroffst or the parameters not sent.
-fn tested(state: AllocState, fscod: u8, hearing: &[u16], log_add: &[u8]) -> Put
+fn first_tests(state: AllocState, fscod: u8, hearing: &[u16], log_add: &[u8]) -> Put
     ensures { λ r. ⌜ doneOf r ≡ allocateBlockOf state fscod [] (now (hearing .entry)) (now («log_add» .entry)) .outcome ⌝ }
 {
     if !tables::tables_fit(hearing, log_add) {
@@ -397,8 +397,9 @@ fn tested(state: AllocState, fscod: u8, hearing: &[u16], log_add: &[u8]) -> Put
     Put::Done
 }
 
-// The pointers of a block's slots, laid into the lent rows: what `tested` refuses; zeros where no offset is in use; else slot by slot 12, 10 for
-// the leak, and what the channel alone answers. On refusal all rows are zeros.
+// The pointers of a block's slots, into a row for each. Of each slot it takes whether it is there, whether its pointers are hebap, its exponents,
+// and their range and the range asked for, each from its start to its end. What `first_tests` refuses; zeros where no offset is in use; else
+// slot by slot 12, 10 for the leak, and what the channel alone answers. On refusal all rows are zeros.
 pub fn allocate_block(
     state: AllocState,
     fscod: u8,
@@ -413,7 +414,7 @@ pub fn allocate_block(
     ensures { λ r. ⌜ blockOf r (now (bap .exit)) ≡ allocateBlockOf state fscod (asked (now (present .entry)) (now (high .entry)) (now (exponents .entry)) (now (ranges .entry))) (now (hearing .entry)) (now («log_add» .entry)) ⌝ }
 {
     silence(bap);
-    let first = tested(state, fscod, hearing, log_add);
+    let first = first_tests(state, fscod, hearing, log_add);
     if let Put::Refused(r) = first {
         return Put::Refused(r);
     }

@@ -15,7 +15,7 @@ returns c =
     let a = n .before .before .before .before .before .args in
     ran-is refl (n .before .silence .ensures)
     ∙ block-stops (a .state) (a .fscod) (asked (now (a .present)) (now (a .high)) (now (a .exponents)) (now (a .ranges))) (a .hearing .now) (a .log-add .now)
-    (sym (ap doneOf (c .before .first .given .1)) ∙ n .tested .ensures)
+    (sym (ap doneOf (c .before .first .given .1)) ∙ n .first-tests .ensures)
 
 returns-2 : tie.Need-returns-2
 returns-2 c =
@@ -24,7 +24,7 @@ returns-2 c =
     let a = n .before .before .before .before .before .args in
     ran-is refl (n .before .silence .ensures)
     ∙ block-quiet (a .state) (a .fscod) (asked (now (a .present)) (now (a .high)) (now (a .exponents)) (now (a .ranges))) (a .hearing .now) (a .log-add .now)
-    (sym (ap doneOf (d .enum-told .given .1)) ∙ n .tested .ensures)
+    (sym (ap doneOf (d .enum-told .given .1)) ∙ n .first-tests .ensures)
     (sym (c .before .all-quiet .ensures _ _ _) ∙ c .if1 .taken)
 
 fill-slots-requires : tie.Need-fill-slots-requires
@@ -37,7 +37,7 @@ returns-3 c =
     let a = n .before .before .before .before .before .args in
     c .fill-slots .ensures
     ∙ block-slots (a .state) (a .fscod) (asked (now (a .present)) (now (a .high)) (now (a .exponents)) (now (a .ranges))) (a .hearing .now) (a .log-add .now)
-    (sym (ap doneOf (d .enum-told .given .1)) ∙ n .tested .ensures)
+    (sym (ap doneOf (d .enum-told .given .1)) ∙ n .first-tests .ensures)
     (sym (c .before .before .before .all-quiet .ensures _ _ _) ∙ c .before .before .if1 .left)
 
 pub allocate-block-spec : {M : Type 1} → statement M

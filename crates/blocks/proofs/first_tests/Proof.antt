@@ -1,4 +1,4 @@
--- `blocks::tested` meets its contract: the cases of the definition, in its order.
+-- `blocks::first_tests` meets its contract: the cases of the definition, in its order.
 -- Assumes nothing.
 use mathlib.Core.Path.{sym, ap, _∙_}
 use mathlib.Core.List.{[]}
@@ -6,8 +6,8 @@ use borrow.Author.Needs.{needs}
 use borrow.Author.Tests.{not-true, not-false}
 use denote.Ref.{now}
 use Rattle.blocks.proofs.Cases.{outcome, block-21, block-11, block-10, block-10-bai, none-taken}
-use Rattle.blocks.proofs.tested.Statement.{statement}
-use Rattle.blocks.proofs.tested.Tie as tie
+use Rattle.blocks.proofs.first_tests.Statement.{statement}
+use Rattle.blocks.proofs.first_tests.Tie as tie
 
 returns : tie.Need-returns
 returns c =
@@ -51,8 +51,8 @@ returns-5 c =
     none-taken (a .state) (a .fscod) (a .hearing .now) (a .log-add .now) (sym (t .before .tables-fit .ensures) ∙ not-false _ (t .if1 .left))
     (sym (k .before .codes-fit .ensures) ∙ not-false _ (k .if2 .left)) (not-false _ (o .if3 .left)) (not-false _ (c .if4 .left))
 
-pub tested-spec : {M : Type 1} → statement M
-tested-spec =
+pub first-tests-spec : {M : Type 1} → statement M
+first-tests-spec =
     tie.close
     (tie.spec
     (λ c κs. search needs)
