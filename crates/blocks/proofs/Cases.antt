@@ -94,7 +94,7 @@ abbrev pub outcome : Ran (List (List ℕ)) Unit → Outcome Unit
 outcome r = r .outcome
 
 -- a block that has no slot: what it comes to
-abbrev pub noneOf : AllocState → ℕ → List ℕ → List ℕ → Outcome Unit
+abbrev noneOf : AllocState → ℕ → List ℕ → List ℕ → Outcome Unit
 noneOf st fscod hearing logAdd = allocateBlockOf st fscod [] hearing logAdd .outcome
 
 module _ (st : AllocState) (fscod : ℕ) (hearing logAdd : List ℕ) where
@@ -109,7 +109,7 @@ module _ (st : AllocState) (fscod : ℕ) (hearing logAdd : List ℕ) where
   none-taken t k c b = empty (quiet st []) ∙ ap outcome (block-tested st fscod [] hearing logAdd t k c b)
 
   -- a block with slots is tested for the same first
-  pub block-after : (slots : List Slot)
+  block-after : (slots : List Slot)
       → allocateBlockOf st fscod slots hearing logAdd
       ≡ filledSlots (andThen (noneOf st fscod hearing logAdd) (λ _. cond (quiet st slots) (taken silence) (slotsFrom st fscod hearing logAdd 0 slots)))
   unfolding allocateBlockOf

@@ -25,7 +25,7 @@ ghost use Rattle.refusal.specs.Refusals.{numberOf, grounds, taken, refused as r
 ghost use Rattle.syntax.specs.Reads.{standing, seenOf, readerOf};
 ghost use Rattle.tables.specs.Bands.{zeros};
 ghost use Rattle.alloc.specs.Answers.{endedOf, allocatedOf, allocateOf};
-ghost use Rattle.blocks.specs.Block.{baiFits, leakFits, ifSent, sentFit, othersFit, deltasFit, codesFit, quietFrom, quiet, noDelta, codesAt, leakAt, deltaAt, pointersBy, slotBy, asked, slotOf, blockOf, filledSlots, silence as silent, slotsFrom, allocateBlockOf};
+ghost use Rattle.blocks.specs.Block.{baiFits, leakFits, ifSent, sentFit, othersFit, deltasFit, codesFit, quietFrom, quiet, noDelta, codesAt, leakAt, deltaAt, pointersBy, slotBy, asked, slotOf, blockOf, filledSlots, silence, slotsFrom, allocateBlockOf};
 ghost use Rattle.blocks.specs.Side.{withDelta, toldOf, badCode, deltaCodeOf, fieldAsk, withSegment, segmentOf, segmentsOf, keptOf, readDeltaOf, over, gatheredOf, deltaReadOf};
 
 // The side information that a frame's blocks carry on, by its names in TS, not yet decoded. Beside what may be unsent stands whether it
@@ -324,8 +324,8 @@ fn fill_slot(
 }
 
 // Zeros for every slot.
-fn silence(bap: &mut [[u8; 256]; 7])
-    ensures { λ r. ⌜ now (bap .exit) ≡ silent ⌝ }
+fn zero_rows(bap: &mut [[u8; 256]; 7])
+    ensures { λ r. ⌜ now (bap .exit) ≡ silence ⌝ }
 {
     let zero: [u8; 256] = [0; 256];
     *bap = [zero; 7];
@@ -343,7 +343,7 @@ fn fill_slots(
     log_add: &[u8],
     bap: &mut [[u8; 256]; 7],
 ) -> Put
-    requires { ⌜ now bap ≡ silent ⌝ }
+    requires { ⌜ now bap ≡ silence ⌝ }
     ensures { λ r. ⌜ blockOf r (now (bap .exit)) ≡ filledSlots (slotsFrom state fscod (now (hearing .entry)) (now («log_add» .entry)) 0 (asked (now (present .entry)) (now (high .entry)) (now (exponents .entry)) (now (ranges .entry)))) ⌝ }
 {
     let mut i: usize = 0;
@@ -361,7 +361,7 @@ fn fill_slots(
             &mut bap[i],
         );
         if let Ended::Refused(r) = one {
-            silence(bap);
+            zero_rows(bap);
             return Put::Refused(r);
         }
         i += 1;
@@ -413,7 +413,7 @@ pub fn allocate_block(
 ) -> Put
     ensures { λ r. ⌜ blockOf r (now (bap .exit)) ≡ allocateBlockOf state fscod (asked (now (present .entry)) (now (high .entry)) (now (exponents .entry)) (now (ranges .entry))) (now (hearing .entry)) (now («log_add» .entry)) ⌝ }
 {
-    silence(bap);
+    zero_rows(bap);
     let first = first_tests(state, fscod, hearing, log_add);
     if let Put::Refused(r) = first {
         return Put::Refused(r);

@@ -13,7 +13,7 @@ returns : tie.Need-returns
 returns c =
     let n = c .before .before .before in
     let a = n .before .before .before .before .before .args in
-    ran-is refl (n .before .silence .ensures)
+    ran-is refl (n .before .zero-rows .ensures)
     ∙ block-stops (a .state) (a .fscod) (asked (now (a .present)) (now (a .high)) (now (a .exponents)) (now (a .ranges))) (a .hearing .now) (a .log-add .now)
     (sym (ap doneOf (c .before .first .given .1)) ∙ n .first-tests .ensures)
 
@@ -22,13 +22,13 @@ returns-2 c =
     let d = c .before .before in
     let n = d .before .before in
     let a = n .before .before .before .before .before .args in
-    ran-is refl (n .before .silence .ensures)
+    ran-is refl (n .before .zero-rows .ensures)
     ∙ block-quiet (a .state) (a .fscod) (asked (now (a .present)) (now (a .high)) (now (a .exponents)) (now (a .ranges))) (a .hearing .now) (a .log-add .now)
     (sym (ap doneOf (d .enum-told .given .1)) ∙ n .first-tests .ensures)
     (sym (c .before .all-quiet .ensures _ _ _) ∙ c .if1 .taken)
 
 fill-slots-requires : tie.Need-fill-slots-requires
-fill-slots-requires c κs = c .before .before .before .before .before .before .silence .ensures
+fill-slots-requires c κs = c .before .before .before .before .before .before .zero-rows .ensures
 
 returns-3 : tie.Need-returns-3
 returns-3 c =

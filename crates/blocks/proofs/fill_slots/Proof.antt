@@ -39,7 +39,7 @@ returns c =
     let l = m .before .before .before .before .before .before .before in
     let a = l .before .before .before .args in
     let e = slot-refused (record { answer = m .fill-slot .result; bap = _ }) (m .fill-slot .ensures) (c .before .before .before .one .given .1) in
-    ran-is refl (c .silence .ensures)
+    ran-is refl (c .zero-rows .ensures)
     ∙ ap (λ o. filledSlots o) (slots-stop (a .state) (a .fscod) (now (a .present)) (now (a .high)) (now (a .exponents)) (now (a .ranges)) (a .hearing .now) (a .log-add .now) (l .loop .i) (l .loop .bap) (omega arith) e ∙ l .loop .inv .3)
 
 loop-again : tie.Need-loop-again Inv-loop μ-loop
