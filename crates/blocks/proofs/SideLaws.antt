@@ -1,4 +1,5 @@
--- Laws of side information: the cases of a delta code, and what the sticky reader makes of a slot's segments.
+-- Laws of side information: the cases of a delta code, what the sticky reader makes of a slot's segments, and what a call over them comes to in
+-- the state that holds them.
 -- Assumes nothing.
 use Prim.Native.Nat.{ℕ, zero, suc, _+_, _^_, _<_, _≤_}
 use mathlib.Core.Path.{_≡_, refl, sym, ap, subst, _∙_}
@@ -6,6 +7,7 @@ use mathlib.Core.List.{List}
 use mathlib.Core.Bool.{Bool, true, false}
 use native.Mathlib.Omega.{arith}
 use native.Mathlib.Numerals.{add-one}
+use lib.Seq.{set-getD}
 use borrow.Author.Tests.{lt-ltb, le-ltb, eq-eqb, ne-eqb}
 use Rattle.refusal.specs.declared.Refusal.{Refusal}
 use Rattle.refusal.specs.Refusals.{Grounds, Outcome, taken, refused, grounds, told, andThen, Ran, follow, thenRun}
@@ -22,27 +24,26 @@ use Rattle.syntax.proofs.ReadLaws.{next-taken}
 use Rattle.blocks.specs.declared.AllocState.{AllocState}
 use Rattle.blocks.specs.declared.Told.{Told}
 use Rattle.blocks.specs.Block.{noDelta}
-use Rattle.blocks.specs.Side.{withDelta, toldOf, badCode, deltaCodeOf, nsegAsk, offstAsk, lenAsk, baAsk, withSegment, reached, segmentOf, segmentsOf, deltaOf, over, keptOf, Stood, stoodOf, readDeltaOf}
+use Rattle.blocks.specs.Side.{withDeltas, segmentsAt, withDelta, keptOf, badCode, codeOf, deltaCodeOf, nsegAsk, offstAsk, lenAsk, baAsk, withSegment, reached, segmentOf, segmentsOf, deltaOf, slotDeltaOf, Stood, stoodOf, readDeltaOf, over, toldOf}
 
 -- the cases of a delta code
-module _ (st : AllocState) (slot code : ℕ) (block0 : Bool) where
-  pub code-6 : 6 < slot → _≡_ {A = Ran AllocState Unit} (record { outcome = refused (grounds 6 0); state = st }) (deltaCodeOf st slot code block0)
-  unfolding deltaCodeOf
+module _ (d : Delta) (slot code : ℕ) (block0 : Bool) where
+  pub code-6 : 6 < slot → _≡_ {A = Ran Delta Unit} (record { outcome = refused (grounds 6 0); state = d }) (keptOf d (codeOf d slot code block0))
+  unfolding codeOf
   code-6 h = rw (lt-ltb 6 slot h)
 
   module _ (h : slot ≤ 6) where
-    pub code-15 : badCode code block0 ≡ true → _≡_ {A = Ran AllocState Unit} (record { outcome = refused (grounds 15 0); state = st }) (deltaCodeOf st slot code block0)
-    unfolding deltaCodeOf
+    pub code-15 : badCode code block0 ≡ true → _≡_ {A = Ran Delta Unit} (record { outcome = refused (grounds 15 0); state = d }) (keptOf d (codeOf d slot code block0))
+    unfolding codeOf
     code-15 b = rw (le-ltb 6 slot h, b)
 
     module _ (b : badCode code block0 ≡ false) where
-      pub code-2 : code ≡ 2 → (s : AllocState) → s ≡ withDelta st slot noDelta
-          → _≡_ {A = Ran AllocState Unit} (record { outcome = taken tt; state = s }) (deltaCodeOf st slot code block0)
-      unfolding deltaCodeOf
-      code-2 k s e = rw (le-ltb 6 slot h, b, eq-eqb code 2 k) (λ i. record { outcome = taken tt; state = e i })
+      pub code-2 : code ≡ 2 → (e : Delta) → e ≡ noDelta → _≡_ {A = Ran Delta Unit} (record { outcome = taken tt; state = e }) (keptOf d (codeOf d slot code block0))
+      unfolding codeOf
+      code-2 k e n = rw (le-ltb 6 slot h, b, eq-eqb code 2 k) (λ i. record { outcome = taken tt; state = n i })
 
-      pub code-kept : (code ≡ 2 → ⊥) → _≡_ {A = Ran AllocState Unit} (record { outcome = taken tt; state = st }) (deltaCodeOf st slot code block0)
-      unfolding deltaCodeOf
+      pub code-kept : (code ≡ 2 → ⊥) → _≡_ {A = Ran Delta Unit} (record { outcome = taken tt; state = d }) (keptOf d (codeOf d slot code block0))
+      unfolding codeOf
       code-kept k = rw (le-ltb 6 slot h, b, ne-eqb code 2 k)
 
 -- what follows a reader with something beside it
@@ -142,29 +143,61 @@ module _ (frame : List ℕ) where
           subst (λ (x : Outcome ℕ). shown x < m) (sym f) (omega arith)
       go (refused g) f = subst (λ (x : Outcome ℕ). shown x < m) (sym f) z
 
--- the state after a reader, by its answer
-module _ (state : AllocState) (slot : ℕ) (d : Delta) (a : Put) (v : ℕ) where
+-- the segments after a reader, by its answer
+module _ (before d : Delta) (a : Put) (v : ℕ) where
   pub kept-stays : {r : Refusal} → a ≡ put.Refused r
-      → _≡_ {A = Ran AllocState Unit} (record { outcome = told r; state = state }) (keptOf state slot (andThen (seenOf a v) (λ _. taken d)))
-  kept-stays e = ap (λ (x : Put). keptOf state slot (andThen (seenOf x v) (λ _. taken d))) (sym e)
+      → _≡_ {A = Ran Delta Unit} (record { outcome = told r; state = before }) (keptOf before (andThen (seenOf a v) (λ _. taken d)))
+  kept-stays e = ap (λ (x : Put). keptOf before (andThen (seenOf x v) (λ _. taken d))) (sym e)
 
-  pub kept-on : (s : AllocState) → s ≡ withDelta state slot d → a ≡ put.Done
-      → _≡_ {A = Ran AllocState Unit} (record { outcome = taken tt; state = s }) (keptOf state slot (andThen (seenOf a v) (λ _. taken d)))
-  kept-on s f e =
-      (λ i. record { outcome = taken tt; state = f i }) ∙ ap (λ (x : Put). keptOf state slot (andThen (seenOf x v) (λ _. taken d))) (sym e)
+  pub kept-on : a ≡ put.Done → _≡_ {A = Ran Delta Unit} (record { outcome = taken tt; state = d }) (keptOf before (andThen (seenOf a v) (λ _. taken d)))
+  kept-on e = ap (λ (x : Put). keptOf before (andThen (seenOf x v) (λ _. taken d))) (sym e)
 
 -- the two ways of a reading
-module _ (frame : List ℕ) (st : Standing) (state : AllocState) (slot : ℕ) where
+module _ (frame : List ℕ) (st : Standing) (before : Delta) (slot : ℕ) where
   pub delta-6 : 6 < slot
-      → _≡_ {A = Ran Stood Unit} (record { outcome = refused (grounds 6 (st .place .pos)); state = record { standing = st; state = state } })
-      (readDeltaOf frame st state slot)
-  unfolding readDeltaOf
+      → _≡_ {A = Ran (Stood Delta) Unit} (record { outcome = refused (grounds 6 (st .place .pos)); state = record { standing = st; state = before } })
+      (stoodOf before (slotDeltaOf frame st slot))
+  unfolding slotDeltaOf
   delta-6 h = rw (lt-ltb 6 slot h)
 
-  pub delta-done : slot ≤ 6 → (r : Ran Standing Delta) → r ≡ deltaOf frame slot st → (t : Told) → toldOf t ≡ keptOf state slot (r .outcome)
-      → _≡_ {A = Ran Stood Unit} (record { outcome = doneOf (t .answer); state = record { standing = r .state; state = t .state } })
-      (readDeltaOf frame st state slot)
-  unfolding readDeltaOf
+  pub delta-done : slot ≤ 6 → (r : Ran Standing Delta) → r ≡ deltaOf frame slot st → (t : Told) → toldOf t ≡ keptOf before (r .outcome)
+      → _≡_ {A = Ran (Stood Delta) Unit} (record { outcome = doneOf (t .answer); state = record { standing = r .state; state = t .delta } })
+      (stoodOf before (slotDeltaOf frame st slot))
+  unfolding slotDeltaOf
   delta-done h r e t k =
       rw (le-ltb 6 slot h)
-      ((λ i. record { outcome = k i .outcome; state = record { standing = r .state; state = k i .state } }) ∙ ap (λ x. stoodOf state slot x) e)
+      ((λ i. record { outcome = k i .outcome; state = record { standing = r .state; state = k i .state } }) ∙ ap (λ x. stoodOf before x) e)
+
+-- a call over a slot's segments, in the state that holds them: the slot has what the call leaves, and a refused call leaves all as it was
+module _ (st : AllocState) (slot : ℕ) where
+  -- the state with a slot's segments put back
+  with-same : withDelta st slot (segmentsAt st slot) ≡ st
+  with-same = ap (λ (ds : List Delta). withDeltas st ds) (set-getD (st .delta) slot noDelta)
+
+  pub code-in : (code : ℕ) (block0 : Bool) (r : Ran Delta Unit) → r ≡ keptOf (segmentsAt st slot) (codeOf (segmentsAt st slot) slot code block0)
+      → _≡_ {A = Ran AllocState Unit} (record { outcome = r .outcome; state = withDelta st slot (r .state) }) (deltaCodeOf st slot code block0)
+  unfolding deltaCodeOf
+  code-in code block0 r e =
+      ap (λ (x : Ran Delta Unit). record { outcome = x .outcome; state = withDelta st slot (x .state) }) e
+      ∙ go (codeOf (segmentsAt st slot) slot code block0)
+    where
+      go : (o : Outcome Delta) → _≡_ {A = Ran AllocState Unit}
+          (record { outcome = keptOf (segmentsAt st slot) o .outcome; state = withDelta st slot (keptOf (segmentsAt st slot) o .state) })
+          (keptOf st (andThen o (λ d. taken (withDelta st slot d))))
+      go (taken d) = refl
+      go (refused g) = λ i. record { outcome = refused g; state = with-same i }
+
+  pub read-in : (frame : List ℕ) (s : Standing) (r : Ran (Stood Delta) Unit) → r ≡ stoodOf (segmentsAt st slot) (slotDeltaOf frame s slot)
+      → _≡_ {A = Ran (Stood AllocState) Unit}
+      (record { outcome = r .outcome; state = record { standing = r .state .standing; state = withDelta st slot (r .state .state) } })
+      (readDeltaOf frame s st slot)
+  unfolding readDeltaOf
+  read-in frame s r e =
+      ap (λ (x : Ran (Stood Delta) Unit). record { outcome = x .outcome; state = record { standing = x .state .standing; state = withDelta st slot (x .state .state) } }) e
+      ∙ go (slotDeltaOf frame s slot .outcome) (slotDeltaOf frame s slot .state)
+    where
+      go : (o : Outcome Delta) (after : Standing) → _≡_ {A = Ran (Stood AllocState) Unit}
+          (record { outcome = keptOf (segmentsAt st slot) o .outcome; state = record { standing = after; state = withDelta st slot (keptOf (segmentsAt st slot) o .state) } })
+          (stoodOf st (follow o after (λ d st₁. reached (withDelta st slot d) st₁)))
+      go (taken d) after = refl
+      go (refused g) after = λ i. record { outcome = refused g; state = record { standing = after; state = with-same i } }

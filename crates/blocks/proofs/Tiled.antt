@@ -11,9 +11,8 @@ use Rattle.syntax.specs.Reads.{Standing, readOf}
 use Rattle.syntax.specs.Tiling.{Reached}
 use Rattle.syntax.proofs.ReadLaws.{Roomy, read-room}
 use Rattle.syntax.proofs.Reached.{read-reached}
-use Rattle.blocks.specs.declared.AllocState.{AllocState}
 use Rattle.blocks.specs.Block.{noDelta}
-use Rattle.blocks.specs.Side.{nsegAsk, offstAsk, lenAsk, baAsk, withSegment, reached, segmentOf, segmentsOf, deltaOf, readDeltaOf}
+use Rattle.blocks.specs.Side.{nsegAsk, offstAsk, lenAsk, baAsk, withSegment, reached, segmentOf, segmentsOf, deltaOf, slotDeltaOf}
 use Rattle.blocks.proofs.SideLaws.{second, third}
 
 module _ (frame : List ℕ) (slot : ℕ) (P : Standing → Type 0) (keeps : (st : Standing) (a : Ask) → P st → P (readOf frame st a .state)) where
@@ -36,18 +35,18 @@ module _ (frame : List ℕ) (slot : ℕ) (P : Standing → Type 0) (keeps : (st 
       then-keeps P (readOf frame st (nsegAsk slot)) (λ n st₁. segmentsOf frame slot (n + 1) (reached noDelta st₁)) (keeps st (nsegAsk slot) h)
       (λ n st₁ k. segments-keeps (n + 1) (reached noDelta st₁) k)
 
-  pub read-delta-keeps : (st : Standing) (state : AllocState) → P st → P (readDeltaOf frame st state slot .state .standing)
-  unfolding readDeltaOf
-  read-delta-keeps st state h = go (refuseIf (ltb 6 slot) 6 (st .place .pos) (taken tt))
+  read-delta-keeps : (st : Standing) → P st → P (slotDeltaOf frame st slot .state)
+  unfolding slotDeltaOf
+  read-delta-keeps st h = go (refuseIf (ltb 6 slot) 6 (st .place .pos) (taken tt))
     where
       go : (o : Outcome Unit) → P (thenRun (settle st st o) (λ _ st₁. deltaOf frame slot st₁) .state)
       go (taken u) = delta-keeps st h
       go (refused g) = h
 
 -- the log tiles the bits below the place
-pub read-delta-reached : (frame : List ℕ) (st : Standing) (state : AllocState) (slot : ℕ) → Reached st → Reached (readDeltaOf frame st state slot .state .standing)
-read-delta-reached frame st state slot h = read-delta-keeps frame slot Reached (λ s a k. read-reached frame s a k) st state h
+pub read-delta-reached : (frame : List ℕ) (st : Standing) (slot : ℕ) → Reached st → Reached (slotDeltaOf frame st slot .state)
+read-delta-reached frame st slot h = read-delta-keeps frame slot Reached (λ s a k. read-reached frame s a k) st h
 
 -- the count is within the room
-pub read-delta-room : (frame : List ℕ) (st : Standing) (state : AllocState) (slot : ℕ) → Roomy st → Roomy (readDeltaOf frame st state slot .state .standing)
-read-delta-room frame st state slot h = read-delta-keeps frame slot Roomy (λ s a k. read-room frame s a k) st state h
+pub read-delta-room : (frame : List ℕ) (st : Standing) (slot : ℕ) → Roomy st → Roomy (slotDeltaOf frame st slot .state)
+read-delta-room frame st slot h = read-delta-keeps frame slot Roomy (λ s a k. read-room frame s a k) st h

@@ -11,7 +11,7 @@ use Rattle.refusal.proofs.Decides.{Decides}
 use Rattle.bits.specs.declared.Put.{Put}
 use Rattle.bits.specs.Answers.{doneOf}
 use Rattle.bits.proofs.Unique.{doneBack, done-back}
-use Rattle.blocks.specs.declared.AllocState.{AllocState}
+use Rattle.tables.specs.declared.Delta.{Delta}
 use Rattle.blocks.specs.declared.Told.{Told}
 use Rattle.blocks.specs.declared.DeltaRead.{DeltaRead}
 use Rattle.blocks.specs.Side.{Stood, toldOf}
@@ -23,14 +23,14 @@ use Rattle.blocks.proofs.read_delta.Kinds as read-delta-kinds
 use Rattle.blocks.proofs.read_delta.Reads as read-delta-reads
 
 -- each answer's meaning leads back to it
-abbrev pub toldBack : Ran AllocState Unit → Told
-toldBack w = record { answer = doneBack (w .outcome); state = w .state }
+abbrev pub toldBack : Ran Delta Unit → Told
+toldBack w = record { answer = doneBack (w .outcome); delta = w .state }
 
 pub told-back : (r : Told) → toldBack (toldOf r) ≡ r
-told-back r = ap (λ (a : Put). record { answer = a; state = r .state }) (done-back (r .answer))
+told-back r = ap (λ (a : Put). record { answer = a; delta = r .delta }) (done-back (r .answer))
 
-abbrev readBack : Ran Stood Unit → DeltaRead
-readBack w = record { answer = doneBack (w .outcome); place = w .state .standing .place; state = w .state .state }
+abbrev readBack : Ran (Stood Delta) Unit → DeltaRead
+readBack w = record { answer = doneBack (w .outcome); place = w .state .standing .place; delta = w .state .state }
 
 -- any two results that a contract allows are equal; the contracts are read from the code
 pub allocate-block-one : (κs : Lfts 7) (a : Dens κs allocate-block-kinds.ps) (x y : Put) (s t : AtExit (endedOf 7 allocate-block-kinds.ps allocate-block-kinds.r) κs)
@@ -46,6 +46,6 @@ pub read-delta-one : (κs : Lfts 2) (a : Dens κs read-delta-kinds.ps) (x y : De
     → read-delta-reads.Post κs a x s → read-delta-reads.Post κs a y t → (x ≡ y) × (now (s .1 .0) ≡ now (t .1 .0))
 read-delta-one κs a x y s t p q =
     let e = p ∙ sym q in
-    let back : (r : DeltaRead) → record { answer = doneBack (doneOf (r .answer)); place = r .place; state = r .state } ≡ r =
-    λ r. ap (λ (a : Put). record { answer = a; place = r .place; state = r .state }) (done-back (r .answer)) in
+    let back : (r : DeltaRead) → record { answer = doneBack (doneOf (r .answer)); place = r .place; delta = r .delta } ≡ r =
+    λ r. ap (λ (a : Put). record { answer = a; place = r .place; delta = r .delta }) (done-back (r .answer)) in
     (sym (back x) ∙ ap readBack e ∙ back y, ap (λ w. w .state .standing .log) e)

@@ -1,12 +1,13 @@
--- What `delta_code` and `read_delta` answer, for all inputs, by document 01's numbers: "Slot (6) is tested before 15", and "Allocation state
--- changes only on success". A delta code has no cursor, so its refusal's bit is 0.
+-- What `delta_code` and `read_delta` answer over one slot's segments, and what the same calls come to over the state that holds them, for all
+-- inputs, by document 01's numbers: "Slot (6) is tested before 15", and "Allocation state changes only on success". A delta code has no cursor,
+-- so its refusal's bit is 0.
 -- Assumes nothing.
 use Prim.Native.Nat.{ℕ, zero, suc, _+_}
 use mathlib.Core.List.{List}
 use mathlib.Core.Bool.{Bool, cond, _&&_, _||_}
 use lib.Dec.{ltb, eqb}
 use lib.IntN.{pos}
-use lib.ListN.{set}
+use lib.ListN.{getD, set}
 use Rattle.refusal.specs.Refusals.{Outcome, taken, refused, refuseIf, andThen, Ran, settle, thenRun}
 use Rattle.bits.specs.Answers.{doneOf}
 use Rattle.syntax.specs.declared.Ask.{Ask}
@@ -20,9 +21,9 @@ use Rattle.blocks.specs.declared.Gathered.{Gathered}
 use Rattle.blocks.specs.declared.DeltaRead.{DeltaRead}
 use Rattle.blocks.specs.Block.{noDelta}
 
--- the state with other segments for a slot
-abbrev pub withDelta : AllocState → ℕ → Delta → AllocState
-withDelta st slot d =
+-- the state with other segments
+abbrev pub withDeltas : AllocState → List Delta → AllocState
+withDeltas st ds =
     record {
       «bai_sent» = st .«bai_sent»;
       sdcycod = st .sdcycod;
@@ -37,24 +38,35 @@ withDelta st slot d =
       «cplleak_sent» = st .«cplleak_sent»;
       cplfleak = st .cplfleak;
       cplsleak = st .cplsleak;
-      delta = set (st .delta) slot d;
+      delta = ds;
     }
 
--- what an answer means, with the state after it
-abbrev pub toldOf : Told → Ran AllocState Unit
-toldOf r = record { outcome = doneOf (r .answer); state = r .state }
+-- a slot's segments, and the state with others for the slot
+abbrev pub segmentsAt : AllocState → ℕ → Delta
+segmentsAt st slot = getD (st .delta) slot noDelta
+
+abbrev pub withDelta : AllocState → ℕ → Delta → AllocState
+withDelta st slot d = withDeltas st (set (st .delta) slot d)
+
+-- "changes only on success": what a call leaves in the place of s, which stays where it is refused
+abbrev pub keptOf : {S : Type 0} → S → Outcome S → Ran S Unit
+keptOf s (taken s′) = record { outcome = taken tt; state = s′ }
+keptOf s (refused g) = record { outcome = refused g; state = s }
 
 -- 15: "deltbae 0 in block 0, or deltbae above 2"
 abbrev pub badCode : ℕ → Bool → Bool
 badCode code block0 = ltb 2 code || (eqb code 0 && block0)
 
--- a deltbae code: 6 for the slot, then 15; 2 is no segments, 0 and 1 leave them
-unfoldable pub deltaCodeOf : AllocState → ℕ → ℕ → Bool → Ran AllocState Unit
-deltaCodeOf st slot code block0 =
-    settle st (cond (eqb code 2) (withDelta st slot noDelta) st)
-    (refuseIf (ltb 6 slot) 6 0
+-- the segments of a slot after a deltbae code: 6 for the slot, then 15; 2 is no segments, 0 and 1 leave them
+unfoldable pub codeOf : Delta → ℕ → ℕ → Bool → Outcome Delta
+codeOf d slot code block0 =
+    refuseIf (ltb 6 slot) 6 0
     (refuseIf (badCode code block0) 15 0
-    (taken tt)))
+    (taken (cond (eqb code 2) noDelta d)))
+
+-- a deltbae code over the state, of which the slot's segments alone may change
+unfoldable pub deltaCodeOf : AllocState → ℕ → ℕ → Bool → Ran AllocState Unit
+deltaCodeOf st slot code block0 = keptOf st (andThen (codeOf (segmentsAt st slot) slot code block0) (λ d. taken (withDelta st slot d)))
 
 -- an element of a slot's segments, logged with the slot for its index; coupling has names of its own
 abbrev pub fieldAsk : ℕ → ℕ → ℕ → ℕ → Ask
@@ -99,25 +111,22 @@ segmentsOf frame slot (suc n) r = thenRun (segmentsOf frame slot n r) (λ d st. 
 unfoldable pub deltaOf : List ℕ → ℕ → Standing → Ran Standing Delta
 deltaOf frame slot st = thenRun (readOf frame st (nsegAsk slot)) (λ n st₁. segmentsOf frame slot (n + 1) (reached noDelta st₁))
 
--- the slot's segments are those that were read; where the reading was refused, the state is as it was
-abbrev pub keptOf : AllocState → ℕ → Outcome Delta → Ran AllocState Unit
-keptOf state slot (taken d) = record { outcome = taken tt; state = withDelta state slot d }
-keptOf state slot (refused g) = record { outcome = refused g; state = state }
+-- 6 for the slot, at the cursor's bit; else its segments
+unfoldable pub slotDeltaOf : List ℕ → Standing → ℕ → Ran Standing Delta
+slotDeltaOf frame st slot =
+    thenRun {A = Unit} (settle st st (refuseIf (ltb 6 slot) 6 (st .place .pos) (taken tt))) (λ _ st₁. deltaOf frame slot st₁)
 
--- what a reading of segments leaves behind: the cursor's numbers and the log, and the state
-pub record Stood : Type 0 where
+-- what a reading leaves behind: the cursor's numbers and the log, and what is kept of it
+pub record Stood (S : Type 0) : Type 0 where
   pub standing : Standing
-  pub state : AllocState
+  pub state : S
 
-abbrev pub stoodOf : AllocState → ℕ → Ran Standing Delta → Ran Stood Unit
-stoodOf state slot r =
-    record { outcome = keptOf state slot (r .outcome) .outcome; state = record { standing = r .state; state = keptOf state slot (r .outcome) .state } }
+abbrev pub stoodOf : {S : Type 0} → S → Ran Standing S → Ran (Stood S) Unit
+stoodOf s r = record { outcome = keptOf s (r .outcome) .outcome; state = record { standing = r .state; state = keptOf s (r .outcome) .state } }
 
--- 6 for the slot, at the cursor's bit; else the segments
-unfoldable pub readDeltaOf : List ℕ → Standing → AllocState → ℕ → Ran Stood Unit
-readDeltaOf frame st state slot =
-    stoodOf state slot
-    (thenRun {A = Unit} (settle st st (refuseIf (ltb 6 slot) 6 (st .place .pos) (taken tt))) (λ _ st₁. deltaOf frame slot st₁))
+-- a reading of segments over the state, of which the slot's alone may change
+unfoldable pub readDeltaOf : List ℕ → Standing → AllocState → ℕ → Ran (Stood AllocState) Unit
+readDeltaOf frame st state slot = stoodOf state (thenRun (slotDeltaOf frame st slot) (λ d st₁. reached (withDelta state slot d) st₁))
 
 -- what a reader means that gathers segments
 abbrev pub over : {A B : Type 0} → Ran Standing A → B → Ran Standing B
@@ -126,6 +135,9 @@ over r b = record { outcome = andThen (r .outcome) (λ _. taken b); state = r .s
 abbrev pub gatheredOf : Gathered → List ℕ → Ran Standing Delta
 gatheredOf w log = over (readerOf (w .reader) log) (w .delta)
 
--- what an answer means, with all that stands after it
-abbrev pub deltaReadOf : DeltaRead → List ℕ → Ran Stood Unit
-deltaReadOf r log = record { outcome = doneOf (r .answer); state = record { standing = standing (r .place) log; state = r .state } }
+-- what an answer means, with the segments and all that stands after it
+abbrev pub toldOf : Told → Ran Delta Unit
+toldOf r = record { outcome = doneOf (r .answer); state = r .delta }
+
+abbrev pub deltaReadOf : DeltaRead → List ℕ → Ran (Stood Delta) Unit
+deltaReadOf r log = record { outcome = doneOf (r .answer); state = record { standing = standing (r .place) log; state = r .delta } }

@@ -26,7 +26,7 @@ ghost use Rattle.syntax.specs.Reads.{standing, seenOf, readerOf};
 ghost use Rattle.tables.specs.Bands.{zeros};
 ghost use Rattle.alloc.specs.Answers.{endedOf, allocatedOf, allocateOf};
 ghost use Rattle.blocks.specs.Block.{baiFits, leakFits, ifSent, sentFit, othersFit, deltasFit, codesFit, quietFrom, quiet, noDelta, codesAt, leakAt, deltaAt, pointersBy, slotBy, asked, slotOf, blockOf, filledSlots, silence, slotsFrom, allocateBlockOf};
-ghost use Rattle.blocks.specs.Side.{withDelta, toldOf, badCode, deltaCodeOf, fieldAsk, withSegment, segmentOf, segmentsOf, keptOf, readDeltaOf, over, gatheredOf, deltaReadOf};
+ghost use Rattle.blocks.specs.Side.{keptOf, badCode, codeOf, fieldAsk, withSegment, segmentOf, segmentsOf, slotDeltaOf, stoodOf, over, gatheredOf, toldOf, deltaReadOf};
 
 // The side information that a frame's blocks carry on, by its names in TS, not yet decoded. Beside what may be unsent stands whether it
 // was sent: the five parameters, csnroffst, and the coupling leak. The segments are those of each slot.
@@ -434,33 +434,23 @@ pub fn allocate_block(
     )
 }
 
-// What a delta code or a reading of segments comes to, and the state after it.
+// What a delta code or a reading of segments comes to, and the slot's segments after it.
 pub struct Told {
     pub answer: Put,
-    pub state: AllocState,
+    pub delta: Delta,
 }
 
-// What reading a slot's segments answers, and the place and the state after it.
+// What reading a slot's segments answers, and the place and the segments after it.
 pub struct DeltaRead {
     pub answer: Put,
     pub place: Place,
-    pub state: AllocState,
+    pub delta: Delta,
 }
 
 // A reader, and the segments that it has read so far.
 struct Gathered {
     reader: Reader,
     delta: Delta,
-}
-
-// The state with other segments for a slot.
-fn put_delta(state: AllocState, slot: usize, delta: Delta) -> AllocState
-    requires { ⌜ slot < 7 ⌝ }
-    ensures { λ r. ⌜ r ≡ withDelta state slot delta ⌝ }
-{
-    let mut s = state;
-    s.delta[slot] = delta;
-    s
 }
 
 // Whether a deltbae code is refused: there is nothing to keep in block 0, and none above 2.
@@ -474,37 +464,37 @@ fn is_bad_code(code: u32, block0: bool) -> bool
     }
 }
 
-// A deltbae code that is refused: the state stays.
-fn refused_code(why: Why, state: AllocState) -> Told
-    ensures { λ r. ⌜ toldOf r ≡ record { outcome = refusedOf (grounds (numberOf why) 0); state = state } ⌝ }
+// A deltbae code that is refused: the segments stay.
+fn refused_code(why: Why, delta: Delta) -> Told
+    ensures { λ r. ⌜ toldOf r ≡ record { outcome = refusedOf (grounds (numberOf why) 0); state = delta } ⌝ }
 {
     let r = Refusal { why: why, bit: 0 };
     Told {
         answer: Put::Refused(r),
-        state: state,
+        delta: delta,
     }
 }
 
 // A slot's deltbae code: 6 for the slot, then 15; 2 ends its segments, 0 and 1 leave them.
-pub fn delta_code(state: AllocState, slot: usize, code: u32, block0: bool) -> Told
-    ensures { λ r. ⌜ toldOf r ≡ deltaCodeOf state slot code block0 ⌝ }
+pub fn delta_code(delta: Delta, slot: usize, code: u32, block0: bool) -> Told
+    ensures { λ r. ⌜ toldOf r ≡ keptOf delta (codeOf delta slot code block0) ⌝ }
 {
     if slot > 6 {
-        return refused_code(Why::BadArgument, state);
+        return refused_code(Why::BadArgument, delta);
     }
-    let ended = put_delta(state, slot, no_delta());
+    let none = no_delta();
     if is_bad_code(code, block0) {
-        return refused_code(Why::BadDelta, state);
+        return refused_code(Why::BadDelta, delta);
     }
     if code == 2 {
         return Told {
             answer: Put::Done,
-            state: ended,
+            delta: none,
         };
     }
     Told {
         answer: Put::Done,
-        state: state,
+        delta: delta,
     }
 }
 
@@ -602,24 +592,22 @@ fn segments(frame: &[u8], log: &mut [u32], reader: Reader, slot: usize, n: usize
     w
 }
 
-// The state with the segments that were read, or as it was where the reader was refused.
-fn kept(state: AllocState, slot: usize, w: Gathered) -> Told
-    requires { ⌜ slot < 7 ⌝ }
-    ensures { λ r. ⌜ toldOf r ≡ keptOf state slot (andThen (seenOf (w .reader .answer) (w .reader .value)) (λ _. taken (w .delta))) ⌝ }
+// The segments that were read, or those of before where the reader was refused.
+fn kept(delta: Delta, w: Gathered) -> Told
+    ensures { λ r. ⌜ toldOf r ≡ keptOf delta (andThen (seenOf (w .reader .answer) (w .reader .value)) (λ _. taken (w .delta))) ⌝ }
 {
     let reader = w.reader;
     let answer = reader.answer;
     if let Put::Refused(r) = answer {
         return Told {
             answer: Put::Refused(r),
-            state: state,
+            delta: delta,
         };
     }
-    let d = w.delta;
-    let s = put_delta(state, slot, d);
+    let read = w.delta;
     Told {
         answer: Put::Done,
-        state: s,
+        delta: read,
     }
 }
 
@@ -628,10 +616,10 @@ pub fn read_delta(
     frame: &[u8],
     log: &mut [u32],
     place: Place,
-    state: AllocState,
+    delta: Delta,
     slot: usize,
 ) -> DeltaRead
-    ensures { λ r. ⌜ deltaReadOf r (now (log .exit)) ≡ readDeltaOf (now (frame .entry)) (standing place (now (log .entry))) state slot ⌝ }
+    ensures { λ r. ⌜ deltaReadOf r (now (log .exit)) ≡ stoodOf delta (slotDeltaOf (now (frame .entry)) (standing place (now (log .entry))) slot) ⌝ }
 {
     if slot > 6 {
         let r = Refusal {
@@ -641,7 +629,7 @@ pub fn read_delta(
         return DeltaRead {
             answer: Put::Refused(r),
             place: place,
-            state: state,
+            delta: delta,
         };
     }
     let first = syntax::begin(place);
@@ -653,14 +641,14 @@ pub fn read_delta(
     );
     let n = (nseg.value as usize) + 1;
     let w = segments(frame, log, nseg, slot, n);
-    let told = kept(state, slot, w);
+    let told = kept(delta, w);
     let reader = w.reader;
     let at = reader.place;
     let answer = told.answer;
-    let after = told.state;
+    let after = told.delta;
     DeltaRead {
         answer: answer,
         place: at,
-        state: after,
+        delta: after,
     }
 }

@@ -1,11 +1,12 @@
 -- The allocation state in a caller's 200 bytes (struct zela_state of include/zelamodurk.h): eight rows of 25, first the codes, and then the
 -- segments of each slot.
 -- Assumes nothing.
-use Prim.Native.Nat.{ℕ, _+_}
+use Prim.Native.Nat.{ℕ, _+_, _<_}
+use mathlib.Core.Path.{_≡_}
 use mathlib.Core.Bool.{Bool, not}
 use mathlib.Core.List.{List, [], _∷_, _++_, map}
 use lib.Dec.{eqb}
-use lib.ListN.{getD}
+use lib.ListN.{length, getD}
 use Rattle.refusal.specs.Refusals.{Ran}
 use Rattle.tables.specs.declared.Delta.{Delta}
 use Rattle.alloc.specs.Table.{from, table}
@@ -18,6 +19,10 @@ use Rattle.capi.specs.Channels.{deltaFrom}
 -- row i
 abbrev pub rowAt : List (List ℕ) → ℕ → List ℕ
 rowAt rows i = getD rows i []
+
+-- eight rows of 25 bytes
+abbrev pub Whole : List (List ℕ) → Type 0
+Whole rows = (length rows ≡ 8) × ((i : ℕ) → i < 8 → length (rowAt rows i) ≡ 25)
 
 -- byte i of a row; n bytes from byte i on; and whether byte i says yes, as any but 0 does
 abbrev pub byteAt : List ℕ → ℕ → ℕ
@@ -81,6 +86,6 @@ pub record Gathered : Type 0 where
 abbrev pub gathered : ℕ → ℕ → ℕ → ℕ → List ℕ → List (List ℕ) → Gathered
 gathered k b at count log rows = record { moved = moved k b at count log; rows = rows }
 
-abbrev pub gatheredOf : List (List ℕ) → Ran Stood Unit → Gathered
+abbrev pub gatheredOf : List (List ℕ) → Ran (Stood AllocState) Unit → Gathered
 gatheredOf rows r =
     record { moved = movedOf (record { outcome = r .outcome; state = r .state .standing }); rows = rowsAfter rows (r .state .state) }

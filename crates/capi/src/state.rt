@@ -5,11 +5,12 @@ use convention::done;
 use tables::Delta;
 ghost use mathlib.Core.Path.{_≡_};
 ghost use Prim.Native.Nat.{_≤_};
+ghost use lib.Dec.{ltb};
 ghost use Rattle.syntax.specs.Reads.{standing};
 ghost use Rattle.alloc.specs.Table.{from};
-ghost use Rattle.blocks.specs.Side.{deltaCodeOf, readDeltaOf};
+ghost use Rattle.blocks.specs.Side.{segmentsAt, withDelta, deltaCodeOf, readDeltaOf};
 ghost use Rattle.capi.specs.Standings.{placeOf};
-ghost use Rattle.capi.specs.States.{rowAt, bytesAt, segmentsFrom, stateFrom, rowOf, rowsAfter, kept, keptOf, gathered, gatheredOf};
+ghost use Rattle.capi.specs.States.{rowAt, Whole, bytesAt, segmentsFrom, stateFrom, rowOf, rowsAfter, kept, keptOf, gathered, gatheredOf};
 
 // Eight bytes of a row.
 fn eight(row: &[u8; 25], at: usize) -> [u8; 8]
@@ -138,22 +139,39 @@ fn row_of(d: Delta) -> [u8; 25]
     ]
 }
 
-// The segments of a state, each slot's in its row.
-fn put_segments(rows: &mut [[u8; 25]; 8], after: AllocState)
-    ensures { λ _. ⌜ now (rows .exit) ≡ rowsAfter (now (rows .entry)) after ⌝ }
+// A slot's segments. A slot above 6 has none.
+fn segments_at(rows: &[[u8; 25]; 8], slot: usize) -> Delta
+    ensures { λ r. ⌜ r ≡ segmentsAt (stateFrom (now (rows .entry))) slot ⌝ }
 {
-    let codes = rows[0];
-    let all = [
-        codes,
-        row_of(after.delta[0]),
-        row_of(after.delta[1]),
-        row_of(after.delta[2]),
-        row_of(after.delta[3]),
-        row_of(after.delta[4]),
-        row_of(after.delta[5]),
-        row_of(after.delta[6]),
-    ];
-    *rows = all;
+    if slot > 6 {
+        return Delta {
+            count: 0,
+            offset: [0; 8],
+            len: [0; 8],
+            ba: [0; 8],
+        };
+    }
+    let at = slot + 1;
+    segments_from(&rows[at])
+}
+
+// Whether a slot has no row. The rows come by value: a value's type tells the proof that they are eight of 25 bytes each, which a reference does not.
+fn lacks_row(rows: [[u8; 25]; 8], slot: usize) -> bool
+    ensures { λ r. ⌜ (r ≡ ltb 6 slot) × Whole rows ⌝ }
+{
+    slot > 6
+}
+
+// Puts a slot's segments in its row.
+fn put_segments(rows: &mut [[u8; 25]; 8], slot: usize, delta: Delta)
+    ensures { λ _. ⌜ now (rows .exit) ≡ rowsAfter (now (rows .entry)) (withDelta (stateFrom (now (rows .entry))) slot delta) ⌝ }
+{
+    if lacks_row(*rows, slot) {
+        return;
+    }
+    let row = row_of(delta);
+    let at = slot + 1;
+    rows[at] = row;
 }
 
 // blocks::delta_code.
@@ -167,10 +185,10 @@ pub extern "C" fn zela_delta_code(
 ) -> u8
     ensures { λ k. ⌜ kept k (now (bit .exit)) (now (state .exit)) ≡ keptOf (now (state .entry)) (deltaCodeOf (stateFrom (now (state .entry))) slot code block0) ⌝ }
 {
-    let before = state_from(state);
+    let before = segments_at(state, slot);
     let told = blocks::delta_code(before, slot, code, block0);
-    let after = told.state;
-    put_segments(state, after);
+    let after = told.delta;
+    put_segments(state, slot, after);
     let answer = told.answer;
     done(answer, bit)
 }
@@ -191,12 +209,12 @@ pub extern "C" fn zela_read_delta(
     ensures { λ k. ⌜ gathered k (now (bit .exit)) (now (pos .exit)) (now (count .exit)) (now (log .exit)) (now (state .exit)) ≡ gatheredOf (now (state .entry)) (readDeltaOf (now (frame .entry)) (standing (placeOf (now (pos .entry)) limit block (now (count .entry))) (now (log .entry))) (stateFrom (now (state .entry))) slot) ⌝ }
 {
     let place = place_of(*pos, limit, block, *count);
-    let before = state_from(state);
+    let before = segments_at(state, slot);
     let read = blocks::read_delta(frame, log, place, before, slot);
     *pos = read.place.pos;
     *count = read.place.count;
-    let after = read.state;
-    put_segments(state, after);
+    let after = read.delta;
+    put_segments(state, slot, after);
     let answer = read.answer;
     done(answer, bit)
 }

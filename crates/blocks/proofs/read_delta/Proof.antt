@@ -17,7 +17,7 @@ use Rattle.blocks.proofs.read_delta.Tie as tie
 
 returns : tie.Need-returns
 returns c =
-    let a = c .before .before .before .args in delta-6 (now (a .frame)) (standing (a .place) (now (a .log))) (a .state) (a .slot) (c .if1 .taken)
+    let a = c .before .before .before .args in delta-6 (now (a .frame)) (standing (a .place) (now (a .log))) (a .delta) (a .slot) (c .if1 .taken)
 
 -- deltnseg has three bits
 few : (c : tie.After-next) → c .next .result .value < 8
@@ -53,7 +53,7 @@ returns-2 c =
     let nseg =
     asked f _ (n .before .field .ensures) (n .next .ensures .0)
     ∙ first-is f (nsegAsk (a .slot)) st _ (reader-is (b .begin .result) (now (a .log)) (b .begin .ensures .0) (b .begin .ensures .1)) in
-    delta-done f st (a .state) (a .slot) (b .before .if1 .left) _
+    delta-done f st (a .delta) (a .slot) (b .before .if1 .left) _
     (s .segments .ensures
     ∙ ap (λ (x : ℕ). segmentsOf f (a .slot) (x + 1) (over (readerOf (n .next .result) (n .next .last .1 .0)) noDelta)) (n .next .ensures .1)
     ∙ delta-is f (a .slot) _ st nseg)
@@ -70,6 +70,6 @@ read-delta-spec =
     (λ c. search needs)
     add-n
     segments-requires
-    (λ c κs. omega (arith, c .before .before .before .before .before .before .before .before .before .before .before .if1 .left))
+    (λ c κs. search needs)
     same-length
     returns-2)

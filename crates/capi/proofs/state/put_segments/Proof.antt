@@ -1,44 +1,40 @@
--- `capi::state::put_segments` meets its contract: each slot has its row.
+-- `capi::state::put_segments` meets its contract: each slot has its row, and a slot above 6 none.
 -- Assumes nothing.
-use mathlib.Core.Path.{_≡_, ap, sym, _∙_}
-use mathlib.Core.List.{[], _∷_}
+use Prim.Native.Nat.{ℕ, _+_, _≤_}
+use mathlib.Core.Path.{sym, ap, _∙_}
+use mathlib.Core.List.{List}
+use native.Mathlib.Omega.{arith}
 use denote.Ref.{now}
-use lib.ListN.{length, length-map}
-use Rattle.alloc.specs.Table.{from}
-use Rattle.capi.specs.States.{rowAt, rowOf, rowsAfter}
-use Rattle.capi.proofs.Rows.{table-map}
+use lib.ListN.{set}
+use borrow.Author.Tests.{ltb-true, ltb-false}
+use Rattle.capi.proofs.Rows.{put-in, put-out}
 use borrow.Author.Needs.{needs}
 use Rattle.capi.proofs.state.put_segments.Statement.{statement}
 use Rattle.capi.proofs.state.put_segments.Tie as tie
 
-seven : (c : tie.Start) → length (c .args .t2 .delta) ≡ 7
-seven c = sym (length-map (c .args .t2 .delta) _) ∙ c .good .1 .0 .1 .1 .1 .1 .1 .1 .1 .1 .1 .1 .1 .1 .1 .1 .1 .0 .1 .0 .1
-
 returns : tie.Need-returns
-unfolding rowsAfter from
 returns c =
-    let s = c .before .before .before .before .before .before .before .before .before .before .before .before .before .before .before in
-    (λ i.
-    rowAt (now (s .args .rows)) 0 ∷ c .before .before .before .before .before .before .before .before .before .before .before .before .row-of .ensures i ∷ c .before .before .before .before .before .before .before .before .before .before .row-of2 .ensures i ∷ c .before .before .before .before .before .before .before .before .row-of3 .ensures i ∷ c .before .before .before .before .before .before .row-of4 .ensures i ∷ c .before .before .before .before .row-of5 .ensures i ∷ c .before .before .row-of6 .ensures i ∷ c .row-of7 .ensures i ∷ [])
-    ∙ ap (λ r. rowAt (now (s .args .rows)) 0 ∷ r) (table-map rowOf _ (s .args .t2 .delta) 7 (seven s))
+    let a = c .before .before .before .args in
+    let l = c .before .lacks-row .ensures in
+    put-out (now (a .rows)) (l .1) (a .slot) (a .delta) (ltb-true 6 (a .slot) (sym (l .0) ∙ c .if1 .taken))
+
+below : (c : tie.Else1) → c .before .before .before .args .slot ≤ 6
+below c = ltb-false 6 (c .before .before .before .args .slot) (sym (c .before .lacks-row .ensures .0) ∙ c .if1 .left)
+
+returns-2 : tie.Need-returns-2
+returns-2 c =
+    let a = c .before .before .before .before .args in
+    ap (λ (row : List ℕ). set (now (a .rows)) (a .slot + 1) row) (c .row-of .ensures)
+    ∙ put-in (now (a .rows)) (c .before .before .lacks-row .ensures .1) (a .slot) (a .delta)
 
 pub put-segments-spec : {M : Type 1} → statement M
 put-segments-spec =
     tie.close
     (tie.spec
-    (λ c. search needs)
-    (λ c. search needs)
     (λ c κs. search needs)
-    (λ c. search needs)
+    returns
     (λ c κs. search needs)
-    (λ c. search needs)
-    (λ c κs. search needs)
-    (λ c. search needs)
-    (λ c κs. search needs)
-    (λ c. search needs)
-    (λ c κs. search needs)
-    (λ c. search needs)
-    (λ c κs. search needs)
-    (λ c. search needs)
-    (λ c κs. search needs)
-    returns)
+    (λ c. let h = below (c .before) in record { fits = omega (arith, h) })
+    (λ c. let h = below (c .before) in record { fits = omega (arith, h) })
+    (λ c. let h = below (c .before) in omega (arith, h))
+    returns-2)

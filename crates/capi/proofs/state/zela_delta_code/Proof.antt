@@ -2,8 +2,10 @@
 -- Assumes nothing.
 use mathlib.Core.Path.{ap, _∙_}
 use denote.Ref.{now}
-use Rattle.blocks.specs.declared.AllocState.{AllocState}
-use Rattle.blocks.specs.Side.{deltaCodeOf}
+use Rattle.tables.specs.declared.Delta.{Delta}
+use Rattle.blocks.specs.Side.{keptOf, codeOf}
+use Rattle.blocks.proofs.SideLaws.{code-in}
+use Rattle.capi.specs.States.{stateFrom}
 use Rattle.capi.proofs.Laws.{kept-as}
 use borrow.Author.Needs.{needs}
 use Rattle.capi.proofs.state.zela_delta_code.Statement.{statement}
@@ -12,8 +14,10 @@ use Rattle.capi.proofs.state.zela_delta_code.Tie as tie
 returns : tie.Need-returns
 returns c =
     let a = c .before .before .before .before .before .before .before .before .args in
-    let asked = ap (λ (st : AllocState). deltaCodeOf st (a .slot) (a .code) (a .block0)) (c .before .before .before .before .before .before .state-from .ensures) in
-    kept-as (now (a .state)) (c .before .before .put-segments .ensures) (c .before .before .before .before .before .delta-code .ensures ∙ asked) (c .done .ensures)
+    let asked = ap (λ (d : Delta). keptOf d (codeOf d (a .slot) (a .code) (a .block0))) (c .before .before .before .before .before .before .segments-at .ensures) in
+    kept-as (now (a .state)) (c .before .before .put-segments .ensures)
+    (code-in (stateFrom (now (a .state))) (a .slot) (a .code) (a .block0) _ (c .before .before .before .before .before .delta-code .ensures ∙ asked))
+    (c .done .ensures)
 
 pub zela-delta-code-spec : {M : Type 1} → statement M
 zela-delta-code-spec =
