@@ -25,15 +25,6 @@ unfolding from
 from-suc i zero f = refl
 from-suc i (suc n) f = ap (λ (r : List _). f (suc i) ∷ r) (from-suc (suc i) n f)
 
--- what f makes of each element
-mapped : {X Y : Type 0} (f : X → Y) (d : X) (l : List X) → table (length l) (λ k. f (getD l k d)) ≡ map f l
-unfolding from
-mapped f d [] = refl
-mapped f d (x ∷ xs) = ap (λ (r : List _). f x ∷ r) (from-suc 0 (length xs) (λ k. f (getD (x ∷ xs) k d)) ∙ mapped f d xs)
-
-pub table-map : {X Y : Type 0} (f : X → Y) (d : X) (l : List X) (n : ℕ) → length l ≡ n → table n (λ k. f (getD l k d)) ≡ map f l
-table-map f d l n h = subst (λ (m : ℕ). table m (λ k. f (getD l k d)) ≡ map f l) h (mapped f d l)
-
 -- the elements themselves
 all-of : {X : Type 0} (d : X) (l : List X) → table (length l) (λ k. getD l k d) ≡ l
 unfolding from
