@@ -88,10 +88,10 @@ pub after-none : (o : Outcome (List (List ℕ))) → after [] o ≡ o
 after-none (taken rest) = refl
 after-none (refused g) = refl
 
-after-one : (front : List (List ℕ)) (c : List ℕ) (o : Outcome (List (List ℕ)))
-    → after (front ++ (c ∷ [])) o ≡ after front (andThen o (λ rest. taken (c ∷ rest)))
-after-one front c (taken rest) = ap {B = Outcome (List (List ℕ))} taken (append-snoc front c rest)
-after-one front c (refused g) = refl
+after-one : (front : List (List ℕ)) (row : List ℕ) (o : Outcome (List (List ℕ)))
+    → after (front ++ (row ∷ [])) o ≡ after front (andThen o (λ rest. taken (row ∷ rest)))
+after-one front row (taken rest) = ap {B = Outcome (List (List ℕ))} taken (append-snoc front row rest)
+after-one front row (refused g) = refl
 
 -- the slots' pointers, where those of the slots before slot i stand in `out`
 module _ (st : AllocState) (fscod : ℕ) (present high : List Bool) (exponents ranges : List (List ℕ)) (hearing logAdd : List ℕ) (i : ℕ) (out : List (List ℕ)) where
