@@ -5,7 +5,7 @@ use Prim.Native.Nat.{ℕ, _-_}
 use mathlib.Core.List.{List}
 use mathlib.Core.Bool.{cond, not}
 use lib.Dec.{ltb, leb}
-use Rattle.refusal.specs.Refusals.{Outcome, taken, refused, told, refuseIf, andThen, Ran}
+use Rattle.refusal.specs.Refusals.{Outcome, taken, told, refuseIf, andThen, Ran, leaves}
 use Rattle.alloc.specs.declared.Ended.{Ended}
 use Rattle.alloc.specs.declared.Ended.the-variants as ended
 use Rattle.alloc.specs.declared.Allocated.{Allocated}
@@ -41,8 +41,7 @@ channelOf exp start end c v s d which hearing logAdd =
 
 -- the pointers that were taken, and zeros on refusal
 abbrev pub filled : Outcome (List ℕ) → Ran (List ℕ) Unit
-filled (taken bap) = record { outcome = taken tt; state = bap }
-filled (refused g) = record { outcome = refused g; state = zeros }
+filled o = leaves zeros o
 
 -- 21, then 11, then the channel
 unfoldable pub allocateOf : List ℕ → ℕ → ℕ → Codes → Leak → Delta → Pointers → List ℕ → List ℕ → Ran (List ℕ) Unit

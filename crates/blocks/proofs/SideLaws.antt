@@ -10,7 +10,7 @@ use native.Mathlib.Numerals.{add-one}
 use lib.Seq.{set-getD}
 use borrow.Author.Tests.{lt-ltb, le-ltb, eq-eqb, ne-eqb}
 use Rattle.refusal.specs.declared.Refusal.{Refusal}
-use Rattle.refusal.specs.Refusals.{Grounds, Outcome, taken, refused, grounds, told, andThen, Ran, follow, thenRun}
+use Rattle.refusal.specs.Refusals.{Grounds, Outcome, taken, refused, grounds, told, andThen, Ran, leaves, follow, thenRun}
 use Rattle.refusal.proofs.Laws.{run-stays}
 use Rattle.bits.specs.declared.Put.{Put}
 use Rattle.bits.specs.declared.Put.the-variants as put
@@ -23,26 +23,26 @@ use Rattle.syntax.proofs.Ends.{next-on}
 use Rattle.syntax.proofs.ReadLaws.{next-taken}
 use Rattle.blocks.specs.declared.AllocState.{AllocState}
 use Rattle.blocks.specs.declared.Told.{Told}
-use Rattle.blocks.specs.Block.{noDelta}
-use Rattle.blocks.specs.Side.{withDeltas, segmentsAt, withDelta, keptOf, badCode, codeOf, deltaCodeOf, nsegAsk, offstAsk, lenAsk, baAsk, withSegment, reached, segmentOf, segmentsOf, deltaOf, slotDeltaOf, Stood, stoodOf, readDeltaOf, over, toldOf}
+use Rattle.blocks.specs.Block.{noDelta, segmentsAt}
+use Rattle.blocks.specs.Side.{withDeltas, withDelta, badCode, codeOf, deltaCodeOf, nsegAsk, offstAsk, lenAsk, baAsk, withSegment, reached, segmentOf, segmentsOf, deltaOf, slotDeltaOf, Stood, stoodOf, readDeltaOf, over, toldOf}
 
 -- the cases of a delta code
 module _ (d : Delta) (slot code : ℕ) (block0 : Bool) where
-  pub code-6 : 6 < slot → _≡_ {A = Ran Delta Unit} (record { outcome = refused (grounds 6 0); state = d }) (keptOf d (codeOf d slot code block0))
+  pub code-6 : 6 < slot → _≡_ {A = Ran Delta Unit} (record { outcome = refused (grounds 6 0); state = d }) (leaves d (codeOf d slot code block0))
   unfolding codeOf
   code-6 h = rw (lt-ltb 6 slot h)
 
   module _ (h : slot ≤ 6) where
-    pub code-15 : badCode code block0 ≡ true → _≡_ {A = Ran Delta Unit} (record { outcome = refused (grounds 15 0); state = d }) (keptOf d (codeOf d slot code block0))
+    pub code-15 : badCode code block0 ≡ true → _≡_ {A = Ran Delta Unit} (record { outcome = refused (grounds 15 0); state = d }) (leaves d (codeOf d slot code block0))
     unfolding codeOf
     code-15 b = rw (le-ltb 6 slot h, b)
 
     module _ (b : badCode code block0 ≡ false) where
-      pub code-2 : code ≡ 2 → (e : Delta) → e ≡ noDelta → _≡_ {A = Ran Delta Unit} (record { outcome = taken tt; state = e }) (keptOf d (codeOf d slot code block0))
+      pub code-2 : code ≡ 2 → (e : Delta) → e ≡ noDelta → _≡_ {A = Ran Delta Unit} (record { outcome = taken tt; state = e }) (leaves d (codeOf d slot code block0))
       unfolding codeOf
       code-2 k e n = rw (le-ltb 6 slot h, b, eq-eqb code 2 k) (λ i. record { outcome = taken tt; state = n i })
 
-      pub code-kept : (code ≡ 2 → ⊥) → _≡_ {A = Ran Delta Unit} (record { outcome = taken tt; state = d }) (keptOf d (codeOf d slot code block0))
+      pub code-kept : (code ≡ 2 → ⊥) → _≡_ {A = Ran Delta Unit} (record { outcome = taken tt; state = d }) (leaves d (codeOf d slot code block0))
       unfolding codeOf
       code-kept k = rw (le-ltb 6 slot h, b, ne-eqb code 2 k)
 
@@ -146,11 +146,11 @@ module _ (frame : List ℕ) where
 -- the segments after a reader, by its answer
 module _ (before d : Delta) (a : Put) (v : ℕ) where
   pub kept-stays : {r : Refusal} → a ≡ put.Refused r
-      → _≡_ {A = Ran Delta Unit} (record { outcome = told r; state = before }) (keptOf before (andThen (seenOf a v) (λ _. taken d)))
-  kept-stays e = ap (λ (x : Put). keptOf before (andThen (seenOf x v) (λ _. taken d))) (sym e)
+      → _≡_ {A = Ran Delta Unit} (record { outcome = told r; state = before }) (leaves before (andThen (seenOf a v) (λ _. taken d)))
+  kept-stays e = ap (λ (x : Put). leaves before (andThen (seenOf x v) (λ _. taken d))) (sym e)
 
-  pub kept-on : a ≡ put.Done → _≡_ {A = Ran Delta Unit} (record { outcome = taken tt; state = d }) (keptOf before (andThen (seenOf a v) (λ _. taken d)))
-  kept-on e = ap (λ (x : Put). keptOf before (andThen (seenOf x v) (λ _. taken d))) (sym e)
+  pub kept-on : a ≡ put.Done → _≡_ {A = Ran Delta Unit} (record { outcome = taken tt; state = d }) (leaves before (andThen (seenOf a v) (λ _. taken d)))
+  kept-on e = ap (λ (x : Put). leaves before (andThen (seenOf x v) (λ _. taken d))) (sym e)
 
 -- the two ways of a reading
 module _ (frame : List ℕ) (st : Standing) (before : Delta) (slot : ℕ) where
@@ -160,7 +160,7 @@ module _ (frame : List ℕ) (st : Standing) (before : Delta) (slot : ℕ) where
   unfolding slotDeltaOf
   delta-6 h = rw (lt-ltb 6 slot h)
 
-  pub delta-done : slot ≤ 6 → (r : Ran Standing Delta) → r ≡ deltaOf frame slot st → (t : Told) → toldOf t ≡ keptOf before (r .outcome)
+  pub delta-done : slot ≤ 6 → (r : Ran Standing Delta) → r ≡ deltaOf frame slot st → (t : Told) → toldOf t ≡ leaves before (r .outcome)
       → _≡_ {A = Ran (Stood Delta) Unit} (record { outcome = doneOf (t .answer); state = record { standing = r .state; state = t .delta } })
       (stoodOf before (slotDeltaOf frame st slot))
   unfolding slotDeltaOf
@@ -174,7 +174,7 @@ module _ (st : AllocState) (slot : ℕ) where
   with-same : withDelta st slot (segmentsAt st slot) ≡ st
   with-same = ap (λ (ds : List Delta). withDeltas st ds) (set-getD (st .delta) slot noDelta)
 
-  pub code-in : (code : ℕ) (block0 : Bool) (r : Ran Delta Unit) → r ≡ keptOf (segmentsAt st slot) (codeOf (segmentsAt st slot) slot code block0)
+  pub code-in : (code : ℕ) (block0 : Bool) (r : Ran Delta Unit) → r ≡ leaves (segmentsAt st slot) (codeOf (segmentsAt st slot) slot code block0)
       → _≡_ {A = Ran AllocState Unit} (record { outcome = r .outcome; state = withDelta st slot (r .state) }) (deltaCodeOf st slot code block0)
   unfolding deltaCodeOf
   code-in code block0 r e =
@@ -182,8 +182,8 @@ module _ (st : AllocState) (slot : ℕ) where
       ∙ go (codeOf (segmentsAt st slot) slot code block0)
     where
       go : (o : Outcome Delta) → _≡_ {A = Ran AllocState Unit}
-          (record { outcome = keptOf (segmentsAt st slot) o .outcome; state = withDelta st slot (keptOf (segmentsAt st slot) o .state) })
-          (keptOf st (andThen o (λ d. taken (withDelta st slot d))))
+          (record { outcome = leaves (segmentsAt st slot) o .outcome; state = withDelta st slot (leaves (segmentsAt st slot) o .state) })
+          (leaves st (andThen o (λ d. taken (withDelta st slot d))))
       go (taken d) = refl
       go (refused g) = λ i. record { outcome = refused g; state = with-same i }
 
@@ -197,7 +197,7 @@ module _ (st : AllocState) (slot : ℕ) where
       ∙ go (slotDeltaOf frame s slot .outcome) (slotDeltaOf frame s slot .state)
     where
       go : (o : Outcome Delta) (after : Standing) → _≡_ {A = Ran (Stood AllocState) Unit}
-          (record { outcome = keptOf (segmentsAt st slot) o .outcome; state = record { standing = after; state = withDelta st slot (keptOf (segmentsAt st slot) o .state) } })
+          (record { outcome = leaves (segmentsAt st slot) o .outcome; state = record { standing = after; state = withDelta st slot (leaves (segmentsAt st slot) o .state) } })
           (stoodOf st (follow o after (λ d st₁. reached (withDelta st slot d) st₁)))
       go (taken d) after = refl
       go (refused g) after = λ i. record { outcome = refused g; state = record { standing = after; state = with-same i } }

@@ -6,7 +6,7 @@ use mathlib.Core.List.{List, [], _∷_}
 use mathlib.Core.Bool.{Bool, true, false, cond, not, _&&_, _||_}
 use lib.Dec.{ltb, leb, eqb}
 use lib.ListN.{getD, replicate}
-use Rattle.refusal.specs.Refusals.{Outcome, taken, refused, refuseIf, andThen, Ran, thenRun}
+use Rattle.refusal.specs.Refusals.{Outcome, taken, refuseIf, andThen, Ran, leaves, thenRun}
 use Rattle.bits.specs.declared.Put.{Put}
 use Rattle.bits.specs.Answers.{doneOf}
 use Rattle.tables.specs.declared.Delta.{Delta}
@@ -116,9 +116,12 @@ codesAt st fscod i =
 unfoldable pub leakAt : AllocState → ℕ → Leak
 leakAt st i = cond (eqb i 5) (leak.Codes (st .cplfleak) (st .cplsleak)) leak.None
 
--- its segments: "LFE takes none"
+-- a slot's segments in the state, and those that apply: "LFE takes none"
+abbrev pub segmentsAt : AllocState → ℕ → Delta
+segmentsAt st i = getD (st .delta) i noDelta
+
 unfoldable pub deltaAt : AllocState → ℕ → Delta
-deltaAt st i = cond (eqb i 6) noDelta (getD (st .delta) i noDelta)
+deltaAt st i = cond (eqb i 6) noDelta (segmentsAt st i)
 
 -- hebap or bap
 unfoldable pub pointersBy : Bool → Pointers
@@ -161,8 +164,7 @@ blockOf r bap = record { outcome = doneOf r; state = bap }
 
 -- the pointers that were taken, and zeros on refusal
 abbrev pub filledSlots : Outcome (List (List ℕ)) → Ran (List (List ℕ)) Unit
-filledSlots (taken slots) = record { outcome = taken tt; state = slots }
-filledSlots (refused g) = record { outcome = refused g; state = silence }
+filledSlots o = leaves silence o
 
 -- 21; 11; 10 for csnroffst; 10 for the parameters; "all zero at once"; else the slots
 unfoldable pub allocateBlockOf : AllocState → ℕ → List Slot → List ℕ → List ℕ → Ran (List (List ℕ)) Unit

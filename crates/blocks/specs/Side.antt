@@ -7,8 +7,8 @@ use mathlib.Core.List.{List}
 use mathlib.Core.Bool.{Bool, cond, _&&_, _||_}
 use lib.Dec.{ltb, eqb}
 use lib.IntN.{pos}
-use lib.ListN.{getD, set}
-use Rattle.refusal.specs.Refusals.{Outcome, taken, refused, refuseIf, andThen, Ran, settle, thenRun}
+use lib.ListN.{set}
+use Rattle.refusal.specs.Refusals.{Outcome, taken, refuseIf, andThen, Ran, settle, leaves, thenRun}
 use Rattle.bits.specs.Answers.{doneOf}
 use Rattle.syntax.specs.declared.Ask.{Ask}
 use Rattle.syntax.specs.declared.Role.the-variants as role
@@ -19,7 +19,7 @@ use Rattle.blocks.specs.declared.AllocState.{AllocState}
 use Rattle.blocks.specs.declared.Told.{Told}
 use Rattle.blocks.specs.declared.Gathered.{Gathered}
 use Rattle.blocks.specs.declared.DeltaRead.{DeltaRead}
-use Rattle.blocks.specs.Block.{noDelta}
+use Rattle.blocks.specs.Block.{noDelta, segmentsAt}
 
 -- the state with other segments
 abbrev pub withDeltas : AllocState → List Delta → AllocState
@@ -41,17 +41,9 @@ withDeltas st ds =
       delta = ds;
     }
 
--- a slot's segments, and the state with others for the slot
-abbrev pub segmentsAt : AllocState → ℕ → Delta
-segmentsAt st slot = getD (st .delta) slot noDelta
-
+-- the state with other segments for a slot
 abbrev pub withDelta : AllocState → ℕ → Delta → AllocState
 withDelta st slot d = withDeltas st (set (st .delta) slot d)
-
--- "changes only on success": what a call leaves in the place of s, which stays where it is refused
-abbrev pub keptOf : {S : Type 0} → S → Outcome S → Ran S Unit
-keptOf s (taken s′) = record { outcome = taken tt; state = s′ }
-keptOf s (refused g) = record { outcome = refused g; state = s }
 
 -- 15: "deltbae 0 in block 0, or deltbae above 2"
 abbrev pub badCode : ℕ → Bool → Bool
@@ -64,9 +56,9 @@ codeOf d slot code block0 =
     (refuseIf (badCode code block0) 15 0
     (taken (cond (eqb code 2) noDelta d)))
 
--- a deltbae code over the state, of which the slot's segments alone may change
+-- a deltbae code over the state, of which the slot's segments alone may change: "changes only on success"
 unfoldable pub deltaCodeOf : AllocState → ℕ → ℕ → Bool → Ran AllocState Unit
-deltaCodeOf st slot code block0 = keptOf st (andThen (codeOf (segmentsAt st slot) slot code block0) (λ d. taken (withDelta st slot d)))
+deltaCodeOf st slot code block0 = leaves st (andThen (codeOf (segmentsAt st slot) slot code block0) (λ d. taken (withDelta st slot d)))
 
 -- an element of a slot's segments, logged with the slot for its index; coupling has names of its own
 abbrev pub fieldAsk : ℕ → ℕ → ℕ → ℕ → Ask
@@ -122,7 +114,7 @@ pub record Stood (S : Type 0) : Type 0 where
   pub state : S
 
 abbrev pub stoodOf : {S : Type 0} → S → Ran Standing S → Ran (Stood S) Unit
-stoodOf s r = record { outcome = keptOf s (r .outcome) .outcome; state = record { standing = r .state; state = keptOf s (r .outcome) .state } }
+stoodOf s r = record { outcome = leaves s (r .outcome) .outcome; state = record { standing = r .state; state = leaves s (r .outcome) .state } }
 
 -- a reading of segments over the state, of which the slot's alone may change
 unfoldable pub readDeltaOf : List ℕ → Standing → AllocState → ℕ → Ran (Stood AllocState) Unit

@@ -21,12 +21,12 @@ ghost use Rattle.bits.specs.Answers.{doneOf};
 ghost use Prim.Native.Nat.{ℕ, _<_, _≤_, _+_};
 ghost use mathlib.Core.Bool.{Bool, not, _&&_, _||_};
 ghost use lib.Dec.{ltb, eqb};
-ghost use Rattle.refusal.specs.Refusals.{numberOf, grounds, taken, refused as refusedOf, andThen, thenRun};
+ghost use Rattle.refusal.specs.Refusals.{numberOf, grounds, taken, refused as refusedOf, andThen, leaves, thenRun};
 ghost use Rattle.syntax.specs.Reads.{standing, seenOf, readerOf};
 ghost use Rattle.tables.specs.Bands.{zeros};
 ghost use Rattle.alloc.specs.Answers.{endedOf, allocatedOf, allocateOf};
 ghost use Rattle.blocks.specs.Block.{baiFits, leakFits, ifSent, sentFit, othersFit, deltasFit, codesFit, quietFrom, quiet, noDelta, codesAt, leakAt, deltaAt, pointersBy, slotBy, asked, slotOf, blockOf, filledSlots, silence, slotsFrom, allocateBlockOf};
-ghost use Rattle.blocks.specs.Side.{keptOf, badCode, codeOf, fieldAsk, withSegment, segmentOf, segmentsOf, slotDeltaOf, stoodOf, over, gatheredOf, toldOf, deltaReadOf};
+ghost use Rattle.blocks.specs.Side.{badCode, codeOf, fieldAsk, withSegment, segmentOf, segmentsOf, slotDeltaOf, stoodOf, over, gatheredOf, toldOf, deltaReadOf};
 
 // The side information that a frame's blocks carry on, by its names in TS, not yet decoded. Beside what may be unsent stands whether it
 // was sent: the five parameters, csnroffst, and the coupling leak. The segments are those of each slot.
@@ -477,7 +477,7 @@ fn refused_code(why: Why, delta: Delta) -> Told
 
 // A slot's deltbae code: 6 for the slot, then 15; 2 ends its segments, 0 and 1 leave them.
 pub fn delta_code(delta: Delta, slot: usize, code: u32, block0: bool) -> Told
-    ensures { λ r. ⌜ toldOf r ≡ keptOf delta (codeOf delta slot code block0) ⌝ }
+    ensures { λ r. ⌜ toldOf r ≡ leaves delta (codeOf delta slot code block0) ⌝ }
 {
     if slot > 6 {
         return refused_code(Why::BadArgument, delta);
@@ -594,7 +594,7 @@ fn segments(frame: &[u8], log: &mut [u32], reader: Reader, slot: usize, n: usize
 
 // The segments that were read, or those of before where the reader was refused.
 fn kept(delta: Delta, w: Gathered) -> Told
-    ensures { λ r. ⌜ toldOf r ≡ keptOf delta (andThen (seenOf (w .reader .answer) (w .reader .value)) (λ _. taken (w .delta))) ⌝ }
+    ensures { λ r. ⌜ toldOf r ≡ leaves delta (andThen (seenOf (w .reader .answer) (w .reader .value)) (λ _. taken (w .delta))) ⌝ }
 {
     let reader = w.reader;
     let answer = reader.answer;

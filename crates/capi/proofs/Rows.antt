@@ -16,8 +16,8 @@ use denote.Shadow.{shadow}
 use Rattle.alloc.specs.Table.{from, table}
 use Rattle.alloc.proofs.TableLaws.{getD-table, length-table}
 use Rattle.tables.specs.declared.Delta.{Delta}
-use Rattle.blocks.specs.Block.{noDelta}
-use Rattle.blocks.specs.Side.{segmentsAt, withDelta}
+use Rattle.blocks.specs.Block.{noDelta, segmentsAt}
+use Rattle.blocks.specs.Side.{withDelta}
 use Rattle.capi.specs.States.{rowAt, Whole, segmentsFrom, stateFrom, rowOf, rowsAfter}
 
 from-suc : {X : Type 0} (i n : ℕ) (f : ℕ → X) → from (suc i) n f ≡ from i n (λ k. f (suc k))

@@ -8,7 +8,8 @@ ghost use Prim.Native.Nat.{_≤_};
 ghost use lib.Dec.{ltb};
 ghost use Rattle.syntax.specs.Reads.{standing};
 ghost use Rattle.alloc.specs.Table.{from};
-ghost use Rattle.blocks.specs.Side.{segmentsAt, withDelta, deltaCodeOf, readDeltaOf};
+ghost use Rattle.blocks.specs.Block.{segmentsAt};
+ghost use Rattle.blocks.specs.Side.{withDelta, deltaCodeOf, readDeltaOf};
 ghost use Rattle.capi.specs.Standings.{placeOf};
 ghost use Rattle.capi.specs.States.{rowAt, Whole, bytesAt, segmentsFrom, stateFrom, rowOf, rowsAfter, kept, keptOf, gathered, gatheredOf};
 

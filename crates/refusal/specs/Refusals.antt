@@ -90,6 +90,11 @@ abbrev pub settle : {S A : Type 0} → S → S → Outcome A → Ran S A
 settle s s′ (taken a) = record { outcome = taken a; state = s′ }
 settle s s′ (refused g) = record { outcome = refused g; state = s }
 
+-- a call that leaves what it was taken with, and s where it is refused
+abbrev pub leaves : {S : Type 0} → S → Outcome S → Ran S Unit
+leaves s (taken s′) = record { outcome = taken tt; state = s′ }
+leaves s (refused g) = record { outcome = refused g; state = s }
+
 -- what follows an outcome over a state; a refusal is passed on, with the state as it stands
 abbrev pub follow : {S A B : Type 0} → Outcome A → S → (A → S → Ran S B) → Ran S B
 follow (taken a) s next = next a s
