@@ -32,8 +32,8 @@ enum kind {
 };
 enum { ARGUMENTS = 18, NUMBERS = 22 };
 
-/* On x86-64 each argument is a word of 8 bytes, in a register or on the stack, and a function reads those that it has, so
- * one type serves to call them all. */
+/* On x86-64 and aarch64 Linux each argument is a word of 8 bytes, in a register or on the stack, and a function reads those
+ * that it has, so one type serves to call them all. */
 typedef uint64_t word;
 typedef uint8_t any(word, word, word, word, word, word, word, word, word, word, word, word, word, word, word, word,
                     word, word);
