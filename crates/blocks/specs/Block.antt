@@ -48,7 +48,7 @@ slotBy present high exp range =
 unfoldable pub slotAt : List Bool → List Bool → List (List ℕ) → List (List ℕ) → ℕ → Slot
 slotAt present high exponents ranges i = slotBy (getD present i false) (getD high i false) (getD exponents i []) (getD ranges i [])
 
--- the seven slots in order
+-- the seven slots in order: "one entry a slot, so no slot comes twice"
 unfoldable pub asked : List Bool → List Bool → List (List ℕ) → List (List ℕ) → List Slot
 asked present high exponents ranges = table 7 (slotAt present high exponents ranges)
 

@@ -90,7 +90,8 @@ abbrev pub settle : {S A : Type 0} → S → S → Outcome A → Ran S A
 settle s s′ (taken a) = record { outcome = taken a; state = s′ }
 settle s s′ (refused g) = record { outcome = refused g; state = s }
 
--- a call that leaves what it was taken with, and s where it is refused
+-- a call that leaves what it was taken with, and s where it is refused: "Allocation state changes only on success; bap answers .. are all
+-- zeros on refusal"
 abbrev pub leaves : {S : Type 0} → S → Outcome S → Ran S Unit
 leaves s (taken s′) = record { outcome = taken tt; state = s′ }
 leaves s (refused g) = record { outcome = refused g; state = s }
