@@ -69,16 +69,16 @@ fn read_element(frame: &[u8]) {
 
 /// Both begin at the frame's start in each pass.
 fn read_raw(frame: &[u8]) {
-    let begin = Place::new(8 * frame.len());
+    let limit = 8 * frame.len();
     let mut reader = Reader::new(frame);
     measure(
         "raw read of 5 bits",
         A_TENTH,
         ELEMENTS,
         || {
-            let mut place = begin;
+            let mut pos = 0;
             for _ in 0..ELEMENTS {
-                let _ = black_box(syntax::read_raw(frame, &mut place, WIDTH));
+                let _ = black_box(syntax::read_raw(frame, &mut pos, limit, WIDTH));
             }
         },
         || {

@@ -151,16 +151,16 @@ fn pointers(bytes: &[u8], pointers: Pointers) -> [u8; BINS] {
 
 fn conventional(bytes: &[u8]) {
     let bap = pointers(bytes, Pointers::Bap);
-    let begin = Place::new(8 * bytes.len());
+    let (limit, start, end) = (8 * bytes.len(), Bin(0), Bin(END));
     let mut reader = Reader::new(bytes);
     measure(
         "conventional walk",
         1.0,
         1,
         || {
-            let (mut place, mut groups) = (begin, Groups::default());
+            let (mut pos, mut groups) = (0, Groups::default());
             let (frame, bap) = (black_box(bytes), black_box(&bap));
-            let walked = walks::conventional(frame, &mut place, bap, Bin(0), Bin(END), &mut groups);
+            let walked = walks::conventional(frame, &mut pos, limit, bap, start, end, &mut groups);
             let _ = black_box(walked);
         },
         || {
@@ -176,16 +176,16 @@ fn aht_walk(name: &str, bytes: &[u8], gaqmod: u32) {
     let gains = bytes[..END].iter().map(gain);
     let mut frame = written([(gaqmod, 2)].into_iter().chain(gains));
     frame.extend_from_slice(&bytes[..bytes.len() - frame.len()]);
-    let begin = Place::new(8 * frame.len());
+    let (limit, start, end) = (8 * frame.len(), Bin(0), Bin(END));
     let mut reader = Reader::new(&frame);
     measure(
         name,
         1.0,
         1,
         || {
-            let mut place = begin;
+            let mut pos = 0;
             let (frame, hebap) = (black_box(&frame), black_box(&hebap));
-            let _ = black_box(aht::aht(frame, &mut place, hebap, Bin(0), Bin(END)));
+            let _ = black_box(aht::aht(frame, &mut pos, limit, hebap, start, end));
         },
         || {
             black_box(reader.aht(black_box(&hebap), END));

@@ -304,8 +304,8 @@ pub fn conventional(
     g: &mut Groups,
 ) -> Result<()> {
     let bap = codes(bap, end, cur, "mantissa")?;
-    cur.moving("mantissa", |frame, place| {
-        walks::conventional(frame, place, &bap, Bin(start), Bin(end), &mut g.0)
+    cur.moving("mantissa", |frame, pos, limit| {
+        walks::conventional(frame, pos, limit, &bap, Bin(start), Bin(end), &mut g.0)
     })
 }
 
@@ -316,8 +316,8 @@ pub fn conventional(
 /// stands.
 pub fn aht(cur: &mut Cursor<'_>, hebap: &[u8], start: usize, end: usize) -> Result<usize> {
     let hebap = codes(hebap, end, cur, "aht")?;
-    cur.moving("aht", |frame, place| {
-        ahts::aht(frame, place, &hebap, Bin(start), Bin(end))
+    cur.moving("aht", |frame, pos, limit| {
+        ahts::aht(frame, pos, limit, &hebap, Bin(start), Bin(end))
     })
 }
 

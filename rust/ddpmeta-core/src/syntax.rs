@@ -159,11 +159,10 @@ impl<'a> Cursor<'a> {
     pub(crate) fn moving<T>(
         &mut self,
         what: &str,
-        call: impl FnOnce(&[u8], &mut Place) -> std::result::Result<T, Refusal>,
+        call: impl FnOnce(&[u8], &mut usize, usize) -> std::result::Result<T, Refusal>,
     ) -> Result<T> {
-        let mut place = self.place(0);
-        let done = call(self.data, &mut place);
-        self.pos = place.pos;
+        let limit = self.sound();
+        let done = call(self.data, &mut self.pos, limit);
         done.map_err(|refusal| refused(what, self.told(refusal)))
     }
 
@@ -266,7 +265,9 @@ impl<'a> Cursor<'a> {
     /// As [`Cursor::get_role`].
     #[inline]
     pub fn raw(&mut self, width: usize, what: &str) -> Result<u32> {
-        self.moving(what, |frame, place| core::read_raw(frame, place, width))
+        self.moving(what, |frame, pos, limit| {
+            core::read_raw(frame, pos, limit, width)
+        })
     }
 }
 

@@ -118,7 +118,12 @@ fn syntax_answer(call: &Call) -> Result<Answer, String> {
             width,
         } => {
             let (room, mut place) = (Room::of(frame), *place);
-            let mut answer = told(syntax::read_raw(room.lent(), &mut place, *width));
+            let mut answer = told(syntax::read_raw(
+                room.lent(),
+                &mut place.pos,
+                place.limit,
+                *width,
+            ));
             room.untouched(frame)?;
             answer.place = Some(place);
             Ok(answer)

@@ -1,7 +1,8 @@
 //! Syntax elements: every bit that is read gets a place in a log that the caller lends.
 //!
 //! A cursor is a [`Place`], the frame's bytes and the log. A place is sound where its limit is at most
-//! 32,768 and at most the frame's bits; its position may be any number.
+//! 32,768 and at most the frame's bits; its position may be any number. What logs nothing takes of the
+//! place the position and the limit alone.
 //!
 //! The log has eight words an element: name, role, block, index, position, width, value, and one that
 //! is 0. At most 4,096 elements are taken, and no more than the words have room for. A call writes the
@@ -276,10 +277,10 @@ pub fn read_element(
 ///
 /// # Errors
 /// In this order: 6 where `width` is above 32 or the place is not sound; 1 where the bits would pass
-/// the limit. The count is not looked at. The bit is the cursor's.
+/// the limit. The bit is the cursor's.
 #[inline]
-pub fn read_raw(frame: &[u8], place: &mut Place, width: usize) -> Result<u32, Refusal> {
-    core::read_raw(frame, place, width)
+pub fn read_raw(frame: &[u8], pos: &mut usize, limit: usize, width: usize) -> Result<u32, Refusal> {
+    core::read_raw(frame, pos, limit, width)
 }
 
 /// Logs the next `width` bits, any number of them, as one element with index -1 and value 0. The

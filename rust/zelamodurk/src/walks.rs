@@ -2,23 +2,21 @@
 //!
 //! ```
 //! use zelamodurk::alloc::Bin;
-//! use zelamodurk::syntax::Place;
 //! use zelamodurk::walks::{self, Groups};
 //!
 //! // Two mantissas of code 4 are a group of 7 bits, also where they stand in two channels.
 //! let (frame, bap) = ([0; 1], [4; 256]);
-//! let (mut place, mut groups) = (Place::new(8), Groups::default());
+//! let (mut pos, limit, mut groups) = (0, 8, Groups::default());
 //! for channel in 0..2 {
-//!     walks::conventional(&frame, &mut place, &bap, Bin(0), Bin(1), &mut groups)?;
+//!     walks::conventional(&frame, &mut pos, limit, &bap, Bin(0), Bin(1), &mut groups)?;
 //! }
-//! assert_eq!((place.pos, groups), (7, Groups::default()));
+//! assert_eq!((pos, groups), (7, Groups::default()));
 //! # Ok::<(), zelamodurk::Refusal>(())
 //! ```
 
 use crate::alloc::{Bin, BINS};
 use crate::core;
 use crate::refusal::Refusal;
-use crate::syntax::Place;
 
 /// How many members the open groups of codes 1, 2 and 4 have. All channels of a block share them; a
 /// block begins with none.
@@ -33,8 +31,8 @@ pub struct Groups {
 }
 
 /// Walks over the mantissas of the bins from `start` to `end`, and carries the groups on. It reads no
-/// mantissa's bits and logs nothing; block and count are not looked at. Where it is refused, the cursor
-/// stands before the mantissa that was refused.
+/// mantissa's bits and logs nothing. Where it is refused, the cursor stands before the mantissa that was
+/// refused.
 ///
 /// # Errors
 /// 6 where the place is not sound, the range ends before its start or past bin 256, or no walk leaves
@@ -43,11 +41,12 @@ pub struct Groups {
 #[inline]
 pub fn conventional(
     frame: &[u8],
-    place: &mut Place,
+    pos: &mut usize,
+    limit: usize,
     bap: &[u8; BINS],
     start: Bin,
     end: Bin,
     groups: &mut Groups,
 ) -> Result<(), Refusal> {
-    core::conventional(frame, place, bap, start, end, groups)
+    core::conventional(frame, pos, limit, bap, start, end, groups)
 }

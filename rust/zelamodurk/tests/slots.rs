@@ -59,13 +59,14 @@ fn a_set_that_can_t_be_asked_for_reads_nothing() {
 fn walk(codes: [u8; 2], limit: usize) -> (Result<(), Refusal>, usize, u8) {
     let mut bap = [0; BINS];
     bap[..2].copy_from_slice(&codes);
-    let mut place = Place::new(limit);
+    let mut pos = 0;
     let mut groups = Groups {
         g4: 1,
         ..Groups::default()
     };
-    let walked = walks::conventional(&[0; 2], &mut place, &bap, Bin(0), Bin(2), &mut groups);
-    (walked, place.pos, groups.g4)
+    let (start, end) = (Bin(0), Bin(2));
+    let walked = walks::conventional(&[0; 2], &mut pos, limit, &bap, start, end, &mut groups);
+    (walked, pos, groups.g4)
 }
 
 #[test]
@@ -85,19 +86,20 @@ fn groups_that_no_walk_leaves_stay_as_given() {
         g2: 9,
         g4: 2,
     };
-    let (mut place, mut groups) = (Place::new(16), given);
-    let walked = walks::conventional(&[0; 2], &mut place, &[1; BINS], Bin(0), Bin(2), &mut groups);
+    let (mut pos, mut groups) = (0, given);
+    let (codes, start, end) = ([1; BINS], Bin(0), Bin(2));
+    let walked = walks::conventional(&[0; 2], &mut pos, 16, &codes, start, end, &mut groups);
     assert_eq!(refused(walked), (Why::BadArgument, 0));
-    assert_eq!((place, groups), (Place::new(16), given));
+    assert_eq!((pos, groups), (0, given));
 }
 
 #[test]
 fn an_aht_walk_stands_where_it_was_refused() {
     // gaqmod 3 and the composite gain 27.
-    let mut place = Place::new(16);
-    let walked = aht::aht(&[0b1111_0110, 0], &mut place, &[8; BINS], Bin(0), Bin(1));
+    let mut pos = 0;
+    let walked = aht::aht(&[0b1111_0110, 0], &mut pos, 16, &[8; BINS], Bin(0), Bin(1));
     assert_eq!(refused(walked), (Why::GainAbove, 7));
-    assert_eq!(place.pos, 7);
+    assert_eq!(pos, 7);
 }
 
 const LOUD: Segment = Segment {
@@ -246,8 +248,9 @@ fn read_and_walk(a: usize, b: usize, c: usize) {
             ..Groups::default()
         };
         let (codes, start, end) = ([19; BINS], Bin(c), Bin(b));
-        let _ = walks::conventional(&FRAME, &mut place.clone(), &codes, start, end, &mut groups);
-        let _ = aht::aht(&FRAME, &mut place.clone(), &codes, start, end);
+        let (pos, limit) = (&mut place.pos.clone(), place.limit);
+        let _ = walks::conventional(&FRAME, pos, limit, &codes, start, end, &mut groups);
+        let _ = aht::aht(&FRAME, pos, limit, &codes, start, end);
     }
 }
 

@@ -7,7 +7,6 @@ use crate::call::{Block, Call, Walk};
 use zelamodurk::alloc::{Bin, Tables, BINS};
 use zelamodurk::blocks::SLOTS;
 use zelamodurk::exponents::ExpSet;
-use zelamodurk::syntax::Place;
 use zelamodurk::{aht, blocks, exponents, walks, Refusal};
 
 /// What stands in room before.
@@ -31,14 +30,16 @@ pub fn answer(call: &Call) -> Result<Answer, String> {
         }
         Call::Conventional { walk, groups } => {
             let (mut groups, (start, end)) = (*groups, (Bin(walk.start), Bin(walk.end)));
-            let mut answer = walked(walk, |frame, place, bap| {
-                walks::conventional(frame, place, bap, start, end, &mut groups).map(|()| 0)
+            let limit = walk.place.limit;
+            let mut answer = walked(walk, |frame, pos, bap| {
+                walks::conventional(frame, pos, limit, bap, start, end, &mut groups).map(|()| 0)
             })?;
             answer.groups = Some(groups);
             Ok(answer)
         }
-        Call::Aht(walk) => walked(walk, |frame, place, hebap| {
-            let tags = aht::aht(frame, place, hebap, Bin(walk.start), Bin(walk.end));
+        Call::Aht(walk) => walked(walk, |frame, pos, hebap| {
+            let (limit, start, end) = (walk.place.limit, Bin(walk.start), Bin(walk.end));
+            let tags = aht::aht(frame, pos, limit, hebap, start, end);
             tags.map(|tags| tags as u32)
         }),
         _ => side_answer(call),
@@ -76,12 +77,12 @@ fn side_answer(call: &Call) -> Result<Answer, String> {
 /// A walk, with its codes and its frame lent.
 fn walked(
     walk: &Walk,
-    call: impl FnOnce(&[u8], &mut Place, &[u8; BINS]) -> Result<u32, Refusal>,
+    call: impl FnOnce(&[u8], &mut usize, &[u8; BINS]) -> Result<u32, Refusal>,
 ) -> Result<Answer, String> {
     let (frame, codes) = (Room::of(&walk.frame), Room::of(&walk.codes));
     let lent: &[u8; BINS] = codes.lent().try_into().map_err(|_| "no 256 codes")?;
     let mut place = walk.place;
-    let mut answer = told(call(frame.lent(), &mut place, lent));
+    let mut answer = told(call(frame.lent(), &mut place.pos, lent));
     frame.untouched(&walk.frame)?;
     codes.untouched(&walk.codes)?;
     answer.place = Some(place);

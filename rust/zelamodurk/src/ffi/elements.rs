@@ -154,15 +154,15 @@ pub fn read_element(
 }
 
 #[inline]
-pub fn read_raw(frame: &[u8], place: &mut Place, width: usize) -> Result<u32, Refusal> {
+pub fn read_raw(frame: &[u8], pos: &mut usize, limit: usize, width: usize) -> Result<u32, Refusal> {
     let (mut value, mut bit) = (0, 0);
     // SAFETY: as the module says.
     let number = unsafe {
         zela_read_raw(
             frame.as_ptr(),
             frame.len(),
-            &mut place.pos,
-            place.limit,
+            pos,
+            limit,
             width,
             &mut value,
             &mut bit,

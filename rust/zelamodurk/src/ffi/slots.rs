@@ -175,7 +175,8 @@ pub fn read_exponents(
 #[inline]
 pub fn conventional(
     frame: &[u8],
-    place: &mut Place,
+    pos: &mut usize,
+    limit: usize,
     bap: &[u8; BINS],
     start: Bin,
     end: Bin,
@@ -187,8 +188,8 @@ pub fn conventional(
         zela_conventional(
             frame.as_ptr(),
             frame.len(),
-            &mut place.pos,
-            place.limit,
+            pos,
+            limit,
             bap.as_ptr(),
             start.0,
             end.0,
@@ -204,7 +205,8 @@ pub fn conventional(
 #[inline]
 pub fn aht(
     frame: &[u8],
-    place: &mut Place,
+    pos: &mut usize,
+    limit: usize,
     hebap: &[u8; BINS],
     start: Bin,
     end: Bin,
@@ -215,8 +217,8 @@ pub fn aht(
         zela_aht(
             frame.as_ptr(),
             frame.len(),
-            &mut place.pos,
-            place.limit,
+            pos,
+            limit,
             hebap.as_ptr(),
             start.0,
             end.0,

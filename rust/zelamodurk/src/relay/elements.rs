@@ -99,19 +99,19 @@ pub fn read_element(
     outcome(number, usize::from_le_bytes(bit), u32::from_le_bytes(value))
 }
 
-pub fn read_raw(frame: &[u8], place: &mut Place, width: usize) -> Result<u32, Refusal> {
-    let mut pos = place.pos.to_le_bytes();
+pub fn read_raw(frame: &[u8], pos: &mut usize, limit: usize, width: usize) -> Result<u32, Refusal> {
+    let mut at = pos.to_le_bytes();
     let (mut value, mut bit) = ([0; 4], [0; 8]);
     let lent = &mut [
         Read(BYTES, frame),
-        room(&mut pos),
-        size(place.limit),
+        room(&mut at),
+        size(limit),
         size(width),
         room(&mut value),
         room(&mut bit),
     ];
     let number = call(Function::ReadRaw as u8, lent);
-    place.pos = usize::from_le_bytes(pos);
+    *pos = usize::from_le_bytes(at);
     outcome(number, usize::from_le_bytes(bit), u32::from_le_bytes(value))
 }
 

@@ -80,18 +80,19 @@ pub fn read_exponents(
 
 pub fn conventional(
     frame: &[u8],
-    place: &mut Place,
+    pos: &mut usize,
+    limit: usize,
     bap: &[u8; BINS],
     start: Bin,
     end: Bin,
     groups: &mut Groups,
 ) -> Result<(), Refusal> {
-    let (mut pos, mut bit) = (place.pos.to_le_bytes(), [0; 8]);
+    let (mut at, mut bit) = (pos.to_le_bytes(), [0; 8]);
     let (mut g1, mut g2, mut g4) = ([groups.g1], [groups.g2], [groups.g4]);
     let lent = &mut [
         Read(BYTES, frame),
-        room(&mut pos),
-        size(place.limit),
+        room(&mut at),
+        size(limit),
         Read(ROOM, bap),
         size(start.0),
         size(end.0),
@@ -101,24 +102,25 @@ pub fn conventional(
         room(&mut bit),
     ];
     let number = call(Function::Conventional as u8, lent);
-    place.pos = usize::from_le_bytes(pos);
+    *pos = usize::from_le_bytes(at);
     [groups.g1, groups.g2, groups.g4] = [g1[0], g2[0], g4[0]];
     outcome(number, usize::from_le_bytes(bit), ())
 }
 
 pub fn aht(
     frame: &[u8],
-    place: &mut Place,
+    pos: &mut usize,
+    limit: usize,
     hebap: &[u8; BINS],
     start: Bin,
     end: Bin,
 ) -> Result<usize, Refusal> {
-    let mut pos = place.pos.to_le_bytes();
+    let mut at = pos.to_le_bytes();
     let (mut tags, mut bit) = ([0; 8], [0; 8]);
     let lent = &mut [
         Read(BYTES, frame),
-        room(&mut pos),
-        size(place.limit),
+        room(&mut at),
+        size(limit),
         Read(ROOM, hebap),
         size(start.0),
         size(end.0),
@@ -126,7 +128,7 @@ pub fn aht(
         room(&mut bit),
     ];
     let number = call(Function::Aht as u8, lent);
-    place.pos = usize::from_le_bytes(pos);
+    *pos = usize::from_le_bytes(at);
     outcome(
         number,
         usize::from_le_bytes(bit),
