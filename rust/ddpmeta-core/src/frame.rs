@@ -1,8 +1,8 @@
 //! Whole frames: their length, tail and checksums, and what a parser answers.
 
-use crate::error::{refused, taken, Result};
+use crate::error::{refused, taken, unfit, Result};
 use crate::syntax::{log_of, Cursor, Field, Role};
-use zelamodurk::frame as core;
+use zelamodurk::{frame as core, Why};
 
 pub use zelamodurk::frame::Codec;
 
@@ -50,8 +50,13 @@ pub struct Frame {
 
 impl Frame {
     /// The frame's bits.
+    ///
+    /// # Panics
+    /// With 6 where there is no such number.
+    #[track_caller]
     pub fn total_bits(&self) -> usize {
-        8 * self.bytes
+        let bits = self.bytes.checked_mul(8);
+        taken("total_bits", bits.ok_or(unfit(Why::BadArgument, 0)))
     }
 
     /// The first element of a role in a block.
@@ -111,9 +116,17 @@ pub fn read_tail(cur: &mut Cursor<'_>, total: usize, codec: Codec) -> Result<()>
 }
 
 /// The 5/8 point of an AC-3 frame, in bits (TS 6.10.1).
+///
+/// # Panics
+/// With 6 where there is no such number.
+#[track_caller]
 pub fn ac3_five_eighths_bits(frame_bytes: usize) -> usize {
     let words = frame_bytes / 2;
-    16 * (words / 2 + words / 8)
+    let bits = (words / 2 + words / 8).checked_mul(16);
+    taken(
+        "ac3_five_eighths_bits",
+        bits.ok_or(unfit(Why::BadArgument, 0)),
+    )
 }
 
 /// Which checksums of a frame are good.

@@ -27,12 +27,12 @@
 //! | Function | Refused |
 //! |---|---|
 //! | `Cursor::get_role` and all reads, `raw` | 6: a width above 32 |
-//! | all readers, `span`, the walks | 6: a limit past the data, or past 32,768 bits, where a read passes what is sound of it |
+//! | all readers, `span`, the walks | 6: a limit past the data, or past 32,768 bits, where a read passes what is sound of it; 1: an end past every number |
 //! | `check_contiguous`, `read_tail` | 6: more than 4,096 elements, or one past 32 bits |
-//! | `read_tail` | 6: a total past the limit; 19: no room for the tail among 4,096 elements |
+//! | `read_tail` | 6: a total past the limit; 16: a cursor whose tail would end past every number; 19: no room for the tail among 4,096 elements |
 //! | `read_exponents`, `read_delta`, `delta_code`, `allocate_block` | 6: a slot above 6 |
-//! | `AllocState::params`, `allocate_block` | 11: a code past its table, or more than 8 segments |
-//! | `allocate_block` | 6: a slot asked for twice, a range past bin 253, more than 65,536 pointers; 8: an exponent outside 0 to 24; 12: fewer exponents than the range has; 21: tables not lent, or unfit |
+//! | `AllocState::params`, `allocate_block` | 11: a code past its table |
+//! | `allocate_block` | 6: a slot asked for twice, a range past bin 253, more than 65,536 pointers; 8: an exponent outside 0 to 24; 11: more than 8 segments; 12: fewer exponents than the range has; 21: tables not lent, or unfit |
 //! | `conventional`, `aht` | 6: a range that ends before its start, or past the codes or bin 256 |
 //!
 //! Where the signature has no `Result`, it panics, with the refusal's number, bit, words and name in the message:
@@ -43,17 +43,24 @@
 //! | `bits::get`, `set`, `range_eq`, `range_zero`, `Writer::copy` | 1: a range past its buffer, also one of width 0 |
 //! | `Writer::zeros` | 6: a length past every number |
 //! | `crc::append_frame_crc` | 20: under 2 bytes |
-//! | `Field::end` | 6: past every number |
+//! | `Field::end`, `Frame::total_bits`, `ac3_five_eighths_bits` | 6: past every number |
 //! | `Cursor::close_span` | 6: a start past the cursor, or a cursor past its limit, or past what is sound of it |
 //! | `alloc::allocate` | 6: a table that is neither of TS's two, a range past bin 253, more than 65,536 pointers; 8: an exponent outside 0 to 24, or not there; 11: a number that no code has, or more than 8 segments; 21: tables not lent, or unfit |
 //! | `frame::crc_status`, `fix_crcs` | 20: a length that is odd, above 4,096, or below 8 in AC-3 and 4 in E-AC-3 |
 //!
 //! # What is not from the proved functions
 //!
-//! `Writer`'s length, `ac3_five_eighths_bits`, the lookups of [`frame::Frame`], how many pointers an allocation
-//! answers, and the parameters that `AllocState::params` decodes (by document 01's code tables), since the core
-//! has no function for them. The [`Field`](syntax::Field) of an element that a parser reads is put together here,
-//! out of what the parser asks for, the cursor's bit and the value that the core reads.
+//! Since the core has no function for them:
+//!
+//! - `Writer`'s length, `Field::end`, `ac3_five_eighths_bits` and the lookups of [`frame::Frame`];
+//! - which bytes `frame_crc_ok` and `append_frame_crc` run the checksum over;
+//! - the parameters that `AllocState::params` decodes, the codes that `alloc::allocate` finds back from decoded
+//!   numbers (both by document 01's code tables), and which of TS's two tables of pointers it was handed;
+//! - how many pointers an allocation answers, and that a set covers no bin that it has no exponent for;
+//! - what is sound of a cursor's limit, and that a read past that part is refused with 6.
+//!
+//! The [`Field`](syntax::Field) of an element that a parser reads is put together here, out of what the parser asks
+//! for, the cursor's bit and the value that the core reads.
 #![forbid(unsafe_code)]
 
 pub mod alloc;

@@ -34,6 +34,7 @@ impl Field {
     ///
     /// # Panics
     /// With 6 where there is no such number.
+    #[track_caller]
     pub fn end(&self) -> usize {
         let end = self.pos.checked_add(self.width);
         taken("end", end.ok_or(unfit(Why::BadArgument, 0)))

@@ -7,7 +7,9 @@ mod said;
 use ddpmeta_core::bits::{self, Writer};
 use ddpmeta_core::blocks::{aht, conventional, read_exponents, AllocState, Groups};
 use ddpmeta_core::crc;
-use ddpmeta_core::frame::{crc_status, fix_crcs, probe, read_tail, Codec};
+use ddpmeta_core::frame::{
+    ac3_five_eighths_bits, crc_status, fix_crcs, probe, read_tail, Codec, Frame,
+};
 use ddpmeta_core::syntax::{check_contiguous, Cursor, Field, Role};
 use said::{panics, refuses};
 
@@ -85,7 +87,53 @@ fn a_span_that_cannot_be_closed_panics() {
     cursor.pos = 12;
     assert_eq!(panics(|| cursor.close_span("a", Role::Plain, 4)), 6);
     assert!(cursor.fields.is_empty());
+}
+
+#[test]
+fn numbers_that_no_usize_has_panic() {
     assert_eq!(panics(|| field(usize::MAX, 1).end()), 6);
+    assert_eq!(panics(|| ac3_five_eighths_bits(usize::MAX)), 6);
+    let frame = |bytes| Frame {
+        codec: Codec::Ac3,
+        bytes,
+        fields: Vec::new(),
+        bsid: 8,
+        acmod: 2,
+        lfeon: false,
+        fscod: 0,
+        strmtyp: 0,
+        substreamid: 0,
+        numblks: 6,
+        block_starts: Vec::new(),
+        mantissa_starts: Vec::new(),
+        audio_end: 0,
+        aht_tags: 0,
+        aht_slots: Vec::new(),
+        spx_blocks: 0,
+        cpl_blocks: 0,
+    };
+    assert_eq!(frame(usize::MAX / 8).total_bits(), usize::MAX - 7);
+    assert_eq!(panics(|| frame(usize::MAX / 8 + 1).total_bits()), 6);
+}
+
+/// The original wraps there in a release build, and reads at the frame's start.
+#[test]
+fn an_end_past_every_number_is_refused() {
+    let frame = [0; 8];
+    let mut cursor = Cursor::new(&frame, 64);
+    cursor.pos = usize::MAX;
+    assert_eq!(refuses(cursor.get("a", 1)), 1);
+    assert_eq!(refuses(cursor.raw(1, "a")), 1);
+    assert_eq!(refuses(cursor.span("a", Role::Plain, 1)), 1);
+    let groups = &mut Groups::default();
+    assert_eq!(refuses(conventional(&mut cursor, &[3], 0, 1, groups)), 1);
+    assert_eq!(refuses(aht(&mut cursor, &[8], 0, 1)), 1);
+    assert_eq!(refuses(read_exponents(&mut cursor, 0, 1, 0, 4)), 1);
+    assert_eq!(refuses(AllocState::default().read_delta(&mut cursor, 0)), 1);
+    assert_eq!(refuses(read_tail(&mut cursor, 64, Codec::Ac3)), 16);
+    assert_eq!((cursor.pos, cursor.fields.len()), (usize::MAX, 0));
+    cursor.pos = 1;
+    assert_eq!(refuses(cursor.span("a", Role::Plain, usize::MAX)), 1);
 }
 
 #[test]

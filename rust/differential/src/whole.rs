@@ -70,8 +70,7 @@ pub enum Told {
     Panicked,
 }
 
-/// How both tell it of a frame where they agree, and none where they don't. Where the Rust panics the drop-in
-/// refuses.
+/// How both tell it of a frame where they agree, and none where they don't. The Rust panics on no frame.
 fn agreed(frame: &[u8], rusts: &Told, ours: &Told) -> Option<String> {
     match (rusts, ours) {
         (Told::Frame(rusts), Told::Frame(ours)) if rusts == ours => Some("taken".to_string()),
@@ -80,9 +79,6 @@ fn agreed(frame: &[u8], rusts: &Told, ours: &Told) -> Option<String> {
                 u8::MAX => "refused by the parser itself".to_string(),
                 number => format!("refused with {number:>2}"),
             })
-        }
-        (Told::Panicked, Told::Refused(ours)) => {
-            Some(format!("the Rust panics: refused with {:>2}", ours.number))
         }
         _ => None,
     }
@@ -207,7 +203,7 @@ impl Tally {
     }
 }
 
-/// What one side tells, short: of two frames the first element that is another.
+/// What one side tells, short: of two frames the first element that is another, or all but the elements.
 fn shown(told: &Told, other: &Told) -> String {
     let (Told::Frame(frame), Told::Frame(other)) = (told, other) else {
         return match told {
@@ -218,16 +214,11 @@ fn shown(told: &Told, other: &Told) -> String {
     let mut pairs = frame.elements.iter().zip(&other.elements);
     match pairs.find(|(one, two)| one != two) {
         Some((one, _)) => format!("{one:?}"),
-        None => format!(
-            "{} elements, {:?}",
-            frame.elements.len(),
-            (
-                &frame.codes,
-                &frame.numbers,
-                &frame.block_starts,
-                &frame.mantissa_starts
-            )
-        ),
+        None => {
+            let mut rest = frame.clone();
+            rest.elements.clear();
+            format!("{} elements, {rest:?}", frame.elements.len())
+        }
     }
 }
 

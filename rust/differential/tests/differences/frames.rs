@@ -242,23 +242,23 @@ fn the_repair_of_odd_and_long_frames() {
     }
 }
 
-/// 128 bytes: the first six, zeros, the last four.
-fn with_zeros(first: [u8; 6], last: [u8; 4]) -> Vec<u8> {
-    [&first[..], &[0; 118], &last].concat()
+/// 128 bytes: the first six, zeros, the last five.
+fn with_zeros(crc1: [u8; 2], last: [u8; 3], crc2: [u8; 2]) -> Vec<u8> {
+    let [high, low] = crc1;
+    let first = [0x0B, 0x77, high, low, 0x00, 0x40];
+    [&first[..], &[0; 117], &last, &crc2].concat()
 }
 
 #[test]
 fn the_reserved_bit_is_inverted_by_both() {
-    let last = [0xBC, 0x95, 0x00, 0x00];
-    let call = Call::repair(
-        with_zeros([0x0B, 0x77, 0x00, 0x00, 0x00, 0x40], last),
-        Codec::Ac3,
-    );
-    let inverted = [0xBC, 0x94, 0x8B, 0x72];
-    let repaired = with_zeros([0x0B, 0x77, 0x7F, 0xE1, 0x00, 0x40], inverted);
-    assert_eq!(core::answer(&call).unwrap().after, repaired);
-    rust_does(&call, &Rust::Leaves(repaired.clone()));
-    assert!(frame::crc_status(&repaired, Codec::Ac3).unwrap().is_good());
-    // crc2 would have been the sync word: it is the CRC of the word before it.
-    assert_eq!(zelamodurk::crc::crc16(0, &last[..2]), 0x0B77);
+    for last in [[0x00, 0xBC, 0x95], [0x01, 0x3C, 0x90]] {
+        let call = Call::repair(with_zeros([0; 2], last, [0; 2]), Codec::Ac3);
+        let [before, high, low] = last;
+        let repaired = with_zeros([0x7F, 0xE1], [before, high, low ^ 1], [0x8B, 0x72]);
+        assert_eq!(core::answer(&call).unwrap().after, repaired);
+        rust_does(&call, &Rust::Leaves(repaired.clone()));
+        assert!(frame::crc_status(&repaired, Codec::Ac3).unwrap().is_good());
+        // crc2 would have been the sync word: it is the CRC of the bytes before it, and zeros change nothing.
+        assert_eq!(zelamodurk::crc::crc16(0, &last), 0x0B77);
+    }
 }
