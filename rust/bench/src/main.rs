@@ -109,7 +109,8 @@ fn measure(name: &str, limit: f64, calls: usize, mut ours: impl FnMut(), mut rus
     let (best, rusts_best) = (each(best), each(rusts_best));
     if rust::PRESENT {
         let ratio = best / rusts_best;
-        println!("{name:<26}{best:>12.1}{rusts_best:>12.1}{ratio:>10.2}{limit:>8.1}");
+        let over = if ratio > limit { "  over" } else { "" };
+        println!("{name:<26}{best:>12.1}{rusts_best:>12.1}{ratio:>10.2}{limit:>8.1}{over}");
     } else {
         println!("{name:<26}{best:>12.1}{:>12}{:>10}{limit:>8.1}", "-", "-");
     }

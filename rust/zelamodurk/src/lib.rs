@@ -1,8 +1,8 @@
 //! Zelamodurk for Rust: a safe wrapper over the proved core that reads AC-3 and E-AC-3
 //! (ETSI TS 102 366 V1.4.1).
 //!
-//! The functions stand in modules named as the core's crates. They take slices, answer a value or
-//! `Result<_, Refusal>`, and panic on no input. What each one answers is said in
+//! The functions stand in modules by subject, most of them named as the core's crates; those of `probe` and
+//! `repair` stand in `frame`. They take slices, answer a value or `Result<_, Refusal>`, and panic on no input. What each one answers is said in
 //! `include/zelamodurk.h` and proved in the core; this crate only carries it over.
 //!
 //! The feature `cursor`, which is on by default, has all that reads by a cursor or allocates. Without it

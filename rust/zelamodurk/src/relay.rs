@@ -153,7 +153,7 @@ thread_local! {
 }
 
 /// A call's answer. Without the emulator there is none to give, whatever the input, so this ends the
-/// program then.
+/// program then, with nothing dropped: a file that is being written stays as it is.
 fn call(function: u8, arguments: &mut [Argument]) -> u8 {
     let answered = RELAY.with_borrow_mut(|relay| {
         let relay = match relay {
