@@ -3,36 +3,32 @@
 use crate::args::Shown;
 use crate::outcome::{said, Failure};
 use crate::progress::Progress;
+use crate::standard::standard;
 use std::ffi::OsStr;
 use std::fs::File;
-use std::io::{self, Read, Seek, SeekFrom, StdinLock};
+use std::io::{self, Read, Seek, SeekFrom};
 
 /// An open input that shows how far it is read.
 pub struct Input {
-    source: Source,
+    source: File,
     size: Option<u64>,
     read: u64,
     progress: Option<Progress>,
 }
 
-enum Source {
-    File(File),
-    Standard(StdinLock<'static>),
-}
-
 impl Input {
     /// Opens a file, or standard input for `-`.
     pub fn open(file: &OsStr) -> Result<Input, Failure> {
-        let (source, size) = if file == "-" {
-            (Source::Standard(io::stdin().lock()), None)
-        } else {
-            let source = File::open(file).map_err(|e| Failure::io(said(file), &e))?;
-            let size = size(&source);
-            (Source::File(source), size)
+        let is_standard = file == "-";
+        let opened = match is_standard {
+            true => standard(io::stdin()),
+            false => File::open(file),
         };
+        let source = opened.map_err(|e| Failure::io(spoken(file), &e))?;
         Ok(Input {
+            // Of standard input some may be read already, so that a size would not tell what is left.
+            size: if is_standard { None } else { size(&source) },
             source,
-            size,
             read: 0,
             progress: None,
         })
@@ -48,19 +44,16 @@ impl Input {
 
     /// Passes over so many bytes, or all that there are, and says how many.
     pub fn pass(&mut self, bytes: u64) -> io::Result<u64> {
-        match (&mut self.source, self.size) {
-            (Source::File(file), Some(size)) => file.seek(SeekFrom::Start(bytes.min(size))),
-            _ => io::copy(&mut self.take(bytes), &mut io::sink()),
+        match self.size {
+            Some(size) => self.source.seek(SeekFrom::Start(bytes.min(size))),
+            None => io::copy(&mut self.take(bytes), &mut io::sink()),
         }
     }
 }
 
 impl Read for Input {
     fn read(&mut self, room: &mut [u8]) -> io::Result<usize> {
-        let more = match &mut self.source {
-            Source::File(file) => file.read(room),
-            Source::Standard(input) => input.read(room),
-        }?;
+        let more = self.source.read(room)?;
         self.read += more as u64;
         if let Some(progress) = &mut self.progress {
             progress.show(self.read);

@@ -15,6 +15,7 @@ mod progress;
 mod repair;
 mod report;
 mod same;
+mod standard;
 mod trouble;
 mod window;
 

@@ -1,6 +1,7 @@
 //! How a run ends: the exit status, and what is said on standard error.
 
 use crate::report::printable;
+use crate::standard::standard;
 use std::ffi::OsStr;
 use std::fmt::Display;
 use std::io::{self, ErrorKind, Write};
@@ -63,9 +64,8 @@ pub fn say(line: &str) {
 
 /// Writes a report to standard output.
 pub fn print(text: &str) -> Result<(), Failure> {
-    let mut out = io::stdout().lock();
-    out.write_all(text.as_bytes())
-        .and_then(|()| out.flush())
+    standard(io::stdout())
+        .and_then(|mut out| out.write_all(text.as_bytes()))
         .map_err(|e| Failure::io("standard output", &e))
 }
 

@@ -2,9 +2,10 @@
 
 use crate::outcome::{said, Failure};
 use crate::same::is_standard_output;
+use crate::standard::standard;
 use std::ffi::OsStr;
 use std::fs::{self, File, OpenOptions, Permissions};
-use std::io::{self, BufWriter, ErrorKind, Stdout, Write};
+use std::io::{self, BufWriter, ErrorKind, Write};
 use std::os::unix::fs::OpenOptionsExt;
 use std::path::{Path, PathBuf};
 use std::process;
@@ -17,14 +18,9 @@ const LINKS: u32 = 40;
 
 /// An output that is begun. Where it is never finished, an old file is still as it was.
 pub struct Output {
-    writer: BufWriter<Sink>,
+    writer: BufWriter<File>,
     draft: Option<Draft>,
     name: String,
-}
-
-enum Sink {
-    File(File),
-    Standard(Stdout),
 }
 
 /// A file beside the one whose place it will take.
@@ -55,11 +51,11 @@ impl Output {
     /// Begins to write a file or a stream. Standard output is `-`, and any other name that leads to it: were
     /// its file replaced, all else that is written to it would be lost.
     pub fn begin(to: &OsStr) -> Result<Output, Failure> {
-        if is_standard_output(to) {
-            let sink = Sink::Standard(io::stdout());
-            return Ok(Output::over(sink, None, spoken(to)));
-        }
-        open(to).map_err(|e| Failure::io(spoken(to), &e))
+        let begun = match is_standard_output(to) {
+            true => standard(io::stdout()).map(|out| Output::over(out, None, spoken(to))),
+            false => open(to),
+        };
+        begun.map_err(|e| Failure::io(spoken(to), &e))
     }
 
     /// Begins to replace a plain file.
@@ -72,9 +68,9 @@ impl Output {
         self.draft.is_none()
     }
 
-    fn over(sink: Sink, draft: Option<Draft>, name: String) -> Output {
+    fn over(file: File, draft: Option<Draft>, name: String) -> Output {
         Output {
-            writer: BufWriter::new(sink),
+            writer: BufWriter::new(file),
             draft,
             name,
         }
@@ -93,10 +89,10 @@ impl Output {
 
     fn settle(&mut self) -> io::Result<()> {
         self.writer.flush()?;
-        let (Sink::File(file), Some(draft)) = (self.writer.get_ref(), &mut self.draft) else {
+        let Some(draft) = &mut self.draft else {
             return Ok(());
         };
-        file.sync_all()?;
+        self.writer.get_ref().sync_all()?;
         draft.take_place()
     }
 }
@@ -109,7 +105,7 @@ fn open(to: &OsStr) -> io::Result<Output> {
         // A pipe or a device has no old content to keep, and a folder can't be opened so.
         Ok(_) => {
             let file = OpenOptions::new().write(true).open(to)?;
-            Ok(Output::over(Sink::File(file), None, spoken(to)))
+            Ok(Output::over(file, None, spoken(to)))
         }
     }
 }
@@ -145,7 +141,7 @@ fn draft(to: &OsStr, place: PathBuf, permissions: Option<Permissions>) -> io::Re
     if let Some(permissions) = permissions {
         file.set_permissions(permissions)?;
     }
-    Ok(Output::over(Sink::File(file), Some(draft), spoken(to)))
+    Ok(Output::over(file, Some(draft), spoken(to)))
 }
 
 /// How a draft is made. Before it has the rights of the file that it replaces, nobody else has any: that file
@@ -178,22 +174,6 @@ pub fn spoken(file: &OsStr) -> String {
     match file.to_str() {
         Some("-") => "standard output".to_string(),
         _ => said(file),
-    }
-}
-
-impl Write for Sink {
-    fn write(&mut self, bytes: &[u8]) -> io::Result<usize> {
-        match self {
-            Sink::File(file) => file.write(bytes),
-            Sink::Standard(out) => out.write(bytes),
-        }
-    }
-
-    fn flush(&mut self) -> io::Result<()> {
-        match self {
-            Sink::File(file) => file.flush(),
-            Sink::Standard(out) => out.flush(),
-        }
     }
 }
 

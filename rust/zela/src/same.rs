@@ -1,7 +1,8 @@
 //! Whether two names lead to one file.
 
+use crate::standard::standard;
 use std::ffi::OsStr;
-use std::fs::{self, File, Metadata};
+use std::fs::{self, Metadata};
 use std::io;
 use std::os::fd::AsFd;
 use std::os::unix::fs::{FileTypeExt, MetadataExt};
@@ -16,17 +17,17 @@ pub fn are_same(from: &OsStr, to: &OsStr) -> bool {
 
 /// Whether what is written to `to` goes where standard output goes.
 pub fn is_standard_output(to: &OsStr) -> bool {
-    let standard = known(OsStr::new("-"), io::stdout());
-    match (known(to, io::stdout()), standard) {
-        (Ok(to), Ok(standard)) => place(&to) == place(&standard),
+    let out = known(OsStr::new("-"), io::stdout());
+    match (known(to, io::stdout()), out) {
+        (Ok(to), Ok(out)) => place(&to) == place(&out),
         _ => to == "-",
     }
 }
 
 /// What the system knows of a file, or of a standard stream for `-`.
-fn known(file: &OsStr, standard: impl AsFd) -> io::Result<Metadata> {
+fn known(file: &OsStr, stream: impl AsFd) -> io::Result<Metadata> {
     match file == "-" {
-        true => File::from(standard.as_fd().try_clone_to_owned()?).metadata(),
+        true => standard(stream)?.metadata(),
         false => fs::metadata(file),
     }
 }

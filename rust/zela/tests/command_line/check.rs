@@ -1,7 +1,7 @@
 //! `zela check`, as a table.
 
 use crate::room::{ac3, eac3, gone, noise, sealed, wrong, Ran, Room, SAMPLES};
-use std::fs;
+use std::fs::{self, File};
 use std::thread;
 
 /// Checks one file of these bytes, under the name `x`.
@@ -341,19 +341,21 @@ pipe  AC-3     700       2  00:00:00.064  64 kbit/s  good  good      188
     writer.join().unwrap().unwrap();
 }
 
+/// Runs that write to standard output.
+const WRITING: [&[&str]; 6] = [
+    &["check", "a.ac3"],
+    &["check", "--format", "json", "a.ac3"],
+    &["bits", "a.ac3", "0", "16"],
+    &["repair", "a.ac3", "-"],
+    &["--help"],
+    &["--version"],
+];
+
 #[test]
 fn a_reader_that_is_gone_is_no_panic() {
     let room = Room::of("a_reader_that_is_gone");
     room.put("a.ac3", &ac3());
-    let runs: [&[&str]; 6] = [
-        &["check", "a.ac3"],
-        &["check", "--format", "json", "a.ac3"],
-        &["bits", "a.ac3", "0", "16"],
-        &["repair", "a.ac3", "-"],
-        &["--help"],
-        &["--version"],
-    ];
-    for words in runs {
+    for words in WRITING {
         room.run_into(gone(), words).is(3, "", "");
     }
     room.run_into(gone(), &["check", "-q", "a.ac3"])
@@ -368,4 +370,53 @@ fn a_full_disk_is_told() {
     let Ok(full) = full else { return };
     let err = "zela: standard output: No space left on device (os error 28)\n";
     room.run_into(full, &["check", "a.ac3"]).is(3, "", err);
+}
+
+#[test]
+fn a_standard_output_that_is_open_for_reading_alone_is_told() {
+    let room = Room::of("open_for_reading_alone");
+    room.put("a.ac3", &ac3());
+    room.put("other", b"old");
+    let err = "zela: standard output: Bad file descriptor (os error 9)\n";
+    for words in WRITING {
+        let other = File::open(room.path("other")).unwrap();
+        room.run_into(other, words).is(3, "", err);
+    }
+    let other = File::open(room.path("other")).unwrap();
+    room.run_into(other, &["check", "-q", "a.ac3"])
+        .is(0, "", "");
+}
+
+#[test]
+fn a_standard_input_that_is_open_for_writing_alone_is_told() {
+    let room = Room::of("open_for_writing_alone");
+    room.put("out", b"old");
+    let err = "zela: standard input: Bad file descriptor (os error 9)\n";
+    let runs: [&[&str]; 4] = [
+        &["check", "-"],
+        &["check", "-q", "-"],
+        &["bits", "-", "0", "16"],
+        &["repair", "-", "out"],
+    ];
+    for words in runs {
+        let input = File::create(room.path("in")).unwrap();
+        room.run_from(input, words).is(3, "", err);
+    }
+    assert_eq!(room.get("out"), b"old");
+    assert_eq!(room.list(), ["in", "out"]);
+}
+
+#[test]
+fn a_standard_stream_that_is_closed_is_the_null_device() {
+    let room = Room::of("closed");
+    room.put("a.ac3", &ac3());
+    let written = room.script("exec \"$0\" check a.ac3 >&-", &[]);
+    written.is(0, "", "");
+    let table = "\
+file  codec  bytes  frames        length  bit rate  crc1  crc2  skipped
+-     -          0       0  00:00:00.000         -  -     -           0
+    first bad place: byte 0, 00:00:00.000: refusal 3, under 6 bytes of header
+";
+    let read = room.script("exec \"$0\" check - <&-", &[]);
+    read.is(1, table, "");
 }

@@ -3,7 +3,7 @@
 use crate::room::{ac3, eac3, gone, noise, wrong, Ran, Room};
 use std::fs::{self, File, OpenOptions};
 use std::os::unix::fs::{symlink, FileTypeExt, MetadataExt, PermissionsExt};
-use std::process::{Command, Stdio};
+use std::process::Stdio;
 use std::thread;
 use std::time::SystemTime;
 
@@ -289,23 +289,18 @@ fn a_write_that_fails_leaves_the_old_file() {
     room.put("in", &ac3().repeat(100));
     room.put("out", b"old");
     // No file may grow past some kilobytes.
-    let shell = "trap '' XFSZ; ulimit -f 8; exec \"$0\" repair in out";
-    let mut command = Command::new("sh");
-    command.args(["-c", shell, env!("CARGO_BIN_EXE_zela")]);
-    let ran = Ran::of(command.current_dir(room.path("")).output().unwrap());
-    ran.is(3, "", "zela: out: File too large (os error 27)\n");
+    let script = "trap '' XFSZ; ulimit -f 8; exec \"$0\" repair in out";
+    let err = "zela: out: File too large (os error 27)\n";
+    room.script(script, &[]).is(3, "", err);
     assert_eq!(room.get("out"), b"old");
     assert_eq!(room.list(), ["in", "out"]);
 }
 
 /// Repairs `in` to `out` by a run that finds its first drafts' names taken, so many of them.
 fn run_beside_drafts(room: &Room, taken: u32) -> Ran {
-    let shell = "n=0; while [ $n -lt $1 ]; do echo left > .zela-$$-$n.tmp; n=$((n+1)); done
+    let script = "n=0; while [ $n -lt $1 ]; do echo left > .zela-$$-$n.tmp; n=$((n+1)); done
         exec \"$0\" repair in out";
-    let mut command = Command::new("sh");
-    command.args(["-c", shell, env!("CARGO_BIN_EXE_zela")]);
-    command.arg(taken.to_string());
-    Ran::of(command.current_dir(room.path("")).output().unwrap())
+    room.script(script, &[&taken.to_string()])
 }
 
 #[test]

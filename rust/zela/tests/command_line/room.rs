@@ -68,7 +68,12 @@ impl Room {
     }
 
     pub fn run(&self, words: &[&str]) -> Ran {
-        let ran = self.command(words).stdin(Stdio::null()).output();
+        self.run_from(Stdio::null(), words)
+    }
+
+    /// Runs it with this as standard input.
+    pub fn run_from(&self, input: impl Into<Stdio>, words: &[&str]) -> Ran {
+        let ran = self.command(words).stdin(input).output();
         Ran::of(ran.unwrap())
     }
 
@@ -86,6 +91,14 @@ impl Room {
     pub fn run_into(&self, out: impl Into<Stdio>, words: &[&str]) -> Ran {
         let mut command = self.command(words);
         let ran = command.stdin(Stdio::null()).stdout(out).output();
+        Ran::of(ran.unwrap())
+    }
+
+    /// Runs a script of the shell in the folder; the program is `$0` there, and the words follow.
+    pub fn script(&self, script: &str, words: &[&str]) -> Ran {
+        let mut shell = Command::new("sh");
+        shell.args(["-c", script, env!("CARGO_BIN_EXE_zela")]);
+        let ran = shell.args(words).current_dir(&self.0).output();
         Ran::of(ran.unwrap())
     }
 
