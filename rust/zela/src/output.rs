@@ -6,7 +6,7 @@ use crate::standard::standard;
 use std::ffi::OsStr;
 use std::fs::{self, File, OpenOptions, Permissions};
 use std::io::{self, BufWriter, ErrorKind, Write};
-use std::os::unix::fs::OpenOptionsExt;
+use std::os::unix::fs::{OpenOptionsExt, PermissionsExt};
 use std::path::{Path, PathBuf};
 use std::process;
 
@@ -15,6 +15,8 @@ use std::process;
 const NAMES: u32 = 100;
 /// How many links are followed, as many as Linux does.
 const LINKS: u32 = 40;
+/// What of a mode a new file keeps. Its owner may be another, in whose name nothing of it must run.
+const RIGHTS: u32 = 0o777;
 
 /// An output that is begun. Where it is never finished, an old file is still as it was.
 pub struct Output {
@@ -114,7 +116,8 @@ fn open(to: &OsStr) -> io::Result<Output> {
 fn replace(file: &OsStr) -> io::Result<Output> {
     let place = fs::canonicalize(file)?;
     let old = fs::metadata(&place)?;
-    draft(file, place, Some(old.permissions()))
+    let mode = old.permissions().mode() & RIGHTS;
+    draft(file, place, Some(Permissions::from_mode(mode)))
 }
 
 /// Where a file that is not there yet is to be: past all links, so that they stay.
@@ -181,7 +184,6 @@ pub fn spoken(file: &OsStr) -> String {
 mod tests {
     use super::*;
     use std::env;
-    use std::os::unix::fs::PermissionsExt;
 
     #[test]
     fn a_draft_that_replaces_a_file_is_closed_to_others_at_once() {
@@ -189,6 +191,6 @@ mod tests {
         let (at, file) = beside(&place, &options(true)).unwrap();
         let mode = file.metadata().unwrap().permissions().mode();
         fs::remove_file(at).unwrap();
-        assert_eq!(mode & 0o777, 0o600);
+        assert_eq!(mode & RIGHTS, 0o600);
     }
 }

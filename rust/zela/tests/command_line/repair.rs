@@ -447,6 +447,26 @@ fn a_link_and_the_mode_stay() {
 }
 
 #[test]
+fn a_new_file_runs_in_nobodys_name() {
+    let room = Room::of("nobodys_name");
+    let damaged = wrong(ac3(), 254, 1);
+    room.put("in", &damaged);
+    let runs: [&[&str]; 2] = [
+        &["repair", "-q", "in", "out"],
+        &["repair", "-q", "-i", "out"],
+    ];
+    for words in runs {
+        room.put("out", &damaged);
+        let mode = fs::Permissions::from_mode(0o7751);
+        fs::set_permissions(room.path("out"), mode).unwrap();
+        room.writes(words, 0, "", "");
+        assert_eq!(room.get("out"), ac3());
+        let known = fs::metadata(room.path("out")).unwrap();
+        assert_eq!(known.permissions().mode() & 0o7777, 0o751);
+    }
+}
+
+#[test]
 fn a_link_that_leads_nowhere_yet_stays() {
     let room = Room::of("leads_nowhere_yet");
     room.put("in", &ac3());
