@@ -38,14 +38,18 @@ impl Failure {
         Failure { outcome, words }
     }
 
-    /// A failed read or write of the thing that is named. A reader of our output that is gone, as with
-    /// `zela .. | head`, needs no word.
+    /// A failed read or write of the thing that is named.
     pub fn io(name: impl Display, error: &io::Error) -> Failure {
-        let words = match error.kind() {
-            ErrorKind::BrokenPipe => String::new(),
-            _ => format!("{name}: {error}"),
-        };
-        Failure::new(Outcome::Io, words)
+        Failure::new(Outcome::Io, format!("{name}: {error}"))
+    }
+
+    /// A failed write to standard output, under the name that it was given. A reader that is gone, as with
+    /// `zela .. | head`, needs no word.
+    pub fn standard_output(name: impl Display, error: &io::Error) -> Failure {
+        match error.kind() {
+            ErrorKind::BrokenPipe => Failure::new(Outcome::Io, ""),
+            _ => Failure::io(name, error),
+        }
     }
 
     /// Says it on standard error.
@@ -66,7 +70,7 @@ pub fn say(line: &str) {
 pub fn print(text: &str) -> Result<(), Failure> {
     standard(io::stdout())
         .and_then(|mut out| out.write_all(text.as_bytes()))
-        .map_err(|e| Failure::io("standard output", &e))
+        .map_err(|e| Failure::standard_output("standard output", &e))
 }
 
 /// A file's name for reports; what is not UTF-8 in it is replaced.

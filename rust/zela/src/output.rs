@@ -21,8 +21,16 @@ const RIGHTS: u32 = 0o777;
 /// An output that is begun. Where it is never finished, an old file is still as it was.
 pub struct Output {
     writer: BufWriter<File>,
-    draft: Option<Draft>,
+    kind: Kind,
     name: String,
+}
+
+/// What is written to.
+enum Kind {
+    Standard,
+    /// A pipe or a device by its name.
+    Named,
+    Draft(Draft),
 }
 
 /// A file beside the one whose place it will take.
@@ -54,7 +62,7 @@ impl Output {
     /// its file replaced, all else that is written to it would be lost.
     pub fn begin(to: &OsStr) -> Result<Output, Failure> {
         let begun = match is_standard_output(to) {
-            true => standard(io::stdout()).map(|out| Output::over(out, None, spoken(to))),
+            true => standard(io::stdout()).map(|out| Output::over(out, Kind::Standard, to)),
             false => open(to),
         };
         begun.map_err(|e| Failure::io(spoken(to), &e))
@@ -67,31 +75,38 @@ impl Output {
 
     /// Whether what is written can't be taken back, and is read by others as it comes.
     pub fn is_stream(&self) -> bool {
-        self.draft.is_none()
+        !matches!(self.kind, Kind::Draft(_))
     }
 
-    fn over(file: File, draft: Option<Draft>, name: String) -> Output {
+    fn over(file: File, kind: Kind, to: &OsStr) -> Output {
         Output {
             writer: BufWriter::new(file),
-            draft,
-            name,
+            kind,
+            name: spoken(to),
+        }
+    }
+
+    fn failed(&self, error: &io::Error) -> Failure {
+        match self.kind {
+            Kind::Standard => Failure::standard_output(&self.name, error),
+            Kind::Named | Kind::Draft(_) => Failure::io(&self.name, error),
         }
     }
 
     pub fn write(&mut self, bytes: &[u8]) -> Result<(), Failure> {
         let written = self.writer.write_all(bytes);
-        written.map_err(|e| Failure::io(&self.name, &e))
+        written.map_err(|e| self.failed(&e))
     }
 
     /// All is written: the draft takes its place.
     pub fn finish(mut self) -> Result<(), Failure> {
         let settled = self.settle();
-        settled.map_err(|e| Failure::io(&self.name, &e))
+        settled.map_err(|e| self.failed(&e))
     }
 
     fn settle(&mut self) -> io::Result<()> {
         self.writer.flush()?;
-        let Some(draft) = &mut self.draft else {
+        let Kind::Draft(draft) = &mut self.kind else {
             return Ok(());
         };
         self.writer.get_ref().sync_all()?;
@@ -107,7 +122,7 @@ fn open(to: &OsStr) -> io::Result<Output> {
         // A pipe or a device has no old content to keep, and a folder can't be opened so.
         Ok(_) => {
             let file = OpenOptions::new().write(true).open(to)?;
-            Ok(Output::over(file, None, spoken(to)))
+            Ok(Output::over(file, Kind::Named, to))
         }
     }
 }
@@ -144,7 +159,7 @@ fn draft(to: &OsStr, place: PathBuf, permissions: Option<Permissions>) -> io::Re
     if let Some(permissions) = permissions {
         file.set_permissions(permissions)?;
     }
-    Ok(Output::over(file, Some(draft), spoken(to)))
+    Ok(Output::over(file, Kind::Draft(draft), to))
 }
 
 /// How a draft is made. Before it has the rights of the file that it replaces, nobody else has any: that file

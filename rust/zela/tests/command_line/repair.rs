@@ -2,6 +2,7 @@
 
 use crate::room::{ac3, eac3, gone, noise, wrong, Ran, Room};
 use std::fs::{self, File, OpenOptions};
+use std::io::Read;
 use std::os::unix::fs::{symlink, FileTypeExt, MetadataExt, PermissionsExt};
 use std::process::Stdio;
 use std::thread;
@@ -384,6 +385,19 @@ fn a_report_is_never_in_a_stream() {
     let reader = thread::spawn(|| fs::read(pipe).unwrap());
     room.writes(&["repair", "in", "pipe"], 0, "", &copied("pipe"));
     assert_eq!(reader.join().unwrap(), ac3());
+    assert_eq!(room.list(), ["in", "pipe"]);
+}
+
+#[test]
+fn a_reader_of_a_pipe_with_a_name_that_is_gone_is_told() {
+    let room = Room::of("a_reader_of_a_pipe");
+    // More than a pipe holds.
+    room.put("in", &ac3().repeat(100));
+    let pipe = room.pipe("pipe");
+    let reader = thread::spawn(|| File::open(pipe).unwrap().read_exact(&mut [0; 10]));
+    let err = "zela: pipe: Broken pipe (os error 32)\n";
+    room.writes(&["repair", "in", "pipe"], 3, "", err);
+    reader.join().unwrap().unwrap();
     assert_eq!(room.list(), ["in", "pipe"]);
 }
 
