@@ -56,7 +56,8 @@ impl fmt::Display for Trouble {
             }
             Trouble::Checksum(status) => f.write_str(bad_sums(*status)),
             Trouble::Lone { status, .. } => {
-                write!(f, "{}, and no frame follows", bad_sums(*status))
+                let bad = bad_sums(*status);
+                write!(f, "{bad}, and no header stands where it would end")
             }
         }
     }

@@ -208,9 +208,21 @@ fn a_bad_frame_before_a_broken_one() {
     let table = "\
 file  codec   bytes  frames        length   bit rate  crc1  crc2  skipped
 x     E-AC-3   3328      11  00:00:00.352  64 kbit/s  -     good      512
-    first bad place: byte 256, 00:00:00.032: crc2 is bad, and no frame follows
+    first bad place: byte 256, 00:00:00.032: crc2 is bad, and no header stands where it would end
 ";
     checks("bad_before_broken", &bytes, 1, table);
+}
+
+#[test]
+fn a_bad_frame_before_a_byte_too_many() {
+    let mut bytes = wrong(eac3(), 256 + 100, 1);
+    bytes.insert(512, 0);
+    let table = "\
+file  codec   bytes  frames        length   bit rate  crc1  crc2  skipped
+x     E-AC-3   3329      12  00:00:00.384  64 kbit/s  -     good      257
+    first bad place: byte 256, 00:00:00.032: crc2 is bad, and no header stands where it would end
+";
+    checks("a_byte_too_many", &bytes, 1, table);
 }
 
 #[test]
