@@ -7,10 +7,11 @@ use std::time::{Duration, Instant};
 const PATIENCE: Duration = Duration::from_millis(500);
 /// The bar is not drawn more often than this.
 const PACE: Duration = Duration::from_millis(100);
-/// Signs of a full bar.
-const FULL: u64 = 30;
+/// Signs of a full bar. With a name and any size it keeps within 80 columns: a line that goes on below is not
+/// wiped out.
+const FULL: u64 = 20;
 /// Signs of a name that are shown.
-const NAME: usize = 30;
+const NAME: usize = 28;
 
 pub struct Progress {
     name: String,
@@ -82,11 +83,11 @@ mod tests {
 
     #[test]
     fn a_bar_is_as_full_as_the_file_is_read() {
-        let half = "a.ac3  [###############...............]  50% of 20 MB";
+        let half = "a.ac3  [##########..........]  50% of 20 MB";
         assert_eq!(line("a.ac3", 10_000_000, Some(20_000_000)), half);
-        let done = "a.ac3  [##############################] 100% of 20 MB";
+        let done = "a.ac3  [####################] 100% of 20 MB";
         assert_eq!(line("a.ac3", 30_000_000, Some(20_000_000)), done);
-        let none = "a.ac3  [..............................]   0% of 18446744073709 MB";
+        let none = "a.ac3  [....................]   0% of 18446744073709 MB";
         assert_eq!(line("a.ac3", 0, Some(u64::MAX)), none);
     }
 
@@ -102,5 +103,15 @@ mod tests {
     fn a_name_keeps_to_its_line() {
         let told = format!("{}  0 MB", "b".repeat(NAME));
         assert_eq!(line(&"b".repeat(99), 0, None), told);
+    }
+
+    #[test]
+    fn a_line_is_narrower_than_a_terminal() {
+        for size in [None, Some(u64::MAX)] {
+            for read in [0, u64::MAX] {
+                let line = line(&"b".repeat(99), read, size);
+                assert!(line.chars().count() < 80, "{line}");
+            }
+        }
     }
 }
