@@ -210,9 +210,10 @@ mod tests {
     }
 
     #[test]
-    fn after_two_dashes_all_words_are_files() {
-        let asked = Command::Repair("-q".into(), "--".into(), Shown::default());
-        assert_eq!(parsed("repair -- -q --"), Ok(asked));
+    fn after_two_dashes_no_word_is_an_option() {
+        let asked = || Ok(Command::Repair("-q".into(), "--".into(), Shown::default()));
+        assert_eq!(parsed("repair -- -q --"), asked());
+        assert_eq!(parsed("-- repair -q --"), asked());
     }
 
     #[test]

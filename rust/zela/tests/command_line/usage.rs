@@ -65,6 +65,17 @@ fn misuse_of_repair_and_bits_has_status_2_too() {
 }
 
 #[test]
+fn after_two_dashes_no_word_is_an_option() {
+    let room = Room::of("two_dashes");
+    room.put("-q", &ac3());
+    let csv = "file,bit,width,value,hex,binary\n-q,0,16,2935,0x0B77,0000101101110111\n";
+    let words = ["--format=csv", "--", "bits", "-q", "0", "16"];
+    room.writes(&words, 0, csv, "");
+    let piped = room.run_on(&ac3(), &["--format=csv", "bits", "--", "-", "0", "16"]);
+    piped.is(0, &csv.replace("-q", "-"), "");
+}
+
+#[test]
 fn messages_keep_to_their_line() {
     let room = Room::of("messages");
     let wild = "\u{1b}[31m\nzela: all good";
