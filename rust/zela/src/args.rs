@@ -22,8 +22,9 @@ Reads AC-3 and E-AC-3 (ETSI TS 102 366) with the proved core of Zelamodurk.
 
   -i, --in-place       repair FILE itself; where anything in it can't be
                        repaired it stays as it is
-      --format FORMAT  text, a table; json, an array of objects; csv, a line
-                       of keys and a line for each file
+      --format FORMAT  text, a table; json, an array with an object for each
+                       file that was read; csv, a line of keys and a line for
+                       each such file
   -q, --quiet          no report and no progress bar: the status tells
   -h, --help           this text
   -V, --version        the version

@@ -68,6 +68,19 @@ fn formats_without_a_file_are_whole() {
 }
 
 #[test]
+fn a_file_that_is_not_read_is_in_no_format() {
+    let room = Room::of("in_no_format");
+    room.put("a", &ac3());
+    let err = "zela: missing: No such file or directory (os error 2)\n";
+    let csv = [KEYS, "a,true,AC-3,3328,13,0.416000,64000,13,0,13,0,0,,,,\n"];
+    let words = ["check", "--format", "csv", "missing", "a"];
+    room.writes(&words, 3, &csv.concat(), err);
+    let json = "[\n  {\"file\": \"a\", \"good\": true, \"codec\": \"AC-3\", \"bytes\": 3328, \"frames\": 13, \"seconds\": 0.416000, \"bit_rate\": 64000, \"crc1_good\": 13, \"crc1_bad\": 0, \"crc2_good\": 13, \"crc2_bad\": 0, \"skipped_bytes\": 0, \"bad_offset\": null, \"bad_seconds\": null, \"bad_refusal\": null, \"bad_words\": null}\n]\n";
+    let words = ["check", "--format", "json", "missing", "a"];
+    room.writes(&words, 3, json, err);
+}
+
+#[test]
 fn repair_has_its_own_keys() {
     let room = Room::of("repair_keys");
     room.put("in", &wrong(ac3(), 300, 1)[..1000]);
