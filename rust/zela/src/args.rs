@@ -184,7 +184,12 @@ fn number(word: &OsStr, which: &str) -> Result<u64, Failure> {
     // `parse` would take a plus sign.
     match digits.parse() {
         Ok(number) if digits.bytes().all(|byte| byte.is_ascii_digit()) => Ok(number),
-        _ => misuse(format!("{which} is not a number of bits: {}", said(word))),
+        _ => {
+            let word = said(word);
+            misuse(format!(
+                "{which} is not a number of bits below 2^64: {word}"
+            ))
+        }
     }
 }
 
@@ -226,8 +231,15 @@ mod tests {
         assert_eq!(parsed("bits a 40 5"), span(40, 5));
         assert_eq!(parsed("bits a 0 0"), span(0, 0));
         for bad in ["+1", "0x10", "1.5", "x", "18446744073709551616"] {
-            let words = format!("POS is not a number of bits: {bad}\nTry 'zela --help'.");
-            assert_eq!(parsed(&format!("bits a {bad} 1")), Err(words));
+            let words = format!("is not a number of bits below 2^64: {bad}\nTry 'zela --help'.");
+            assert_eq!(
+                parsed(&format!("bits a {bad} 1")),
+                Err(format!("POS {words}"))
+            );
+            assert_eq!(
+                parsed(&format!("bits a 1 {bad}")),
+                Err(format!("WIDTH {words}"))
+            );
         }
     }
 

@@ -55,9 +55,19 @@ fn misuse_of_repair_and_bits_has_status_2_too() {
         &["bits", "a", "0"],
         "bits takes a file, a position and a width",
     );
-    misuses(&["bits", "a", "x", "1"], "POS is not a number of bits: x");
+    misuses(
+        &["bits", "a", "x", "1"],
+        "POS is not a number of bits below 2^64: x",
+    );
     misuses(&["bits", "a", "0", "-1"], "no such option: -1");
-    misuses(&["bits", "a", "0", ""], "WIDTH is not a number of bits: ");
+    misuses(
+        &["bits", "a", "0", "18446744073709551616"],
+        "WIDTH is not a number of bits below 2^64: 18446744073709551616",
+    );
+    misuses(
+        &["bits", "a", "0", ""],
+        "WIDTH is not a number of bits below 2^64: ",
+    );
     misuses(
         &["bits", "-q", "a", "0", "1"],
         "--quiet does not go with bits",
