@@ -78,7 +78,10 @@ pub fn name(file: &OsStr) -> String {
     file.to_string_lossy().into_owned()
 }
 
-/// A word of the command line in a message.
+/// A word of the command line in a message. Of an empty one nothing would be seen without quotes.
 pub fn said(word: &OsStr) -> String {
-    printable(&name(word))
+    match word.is_empty() {
+        true => "''".to_string(),
+        false => printable(&name(word)),
+    }
 }

@@ -66,7 +66,7 @@ fn misuse_of_repair_and_bits_has_status_2_too() {
     );
     misuses(
         &["bits", "a", "0", ""],
-        "WIDTH is not a number of bits below 2^64: ",
+        "WIDTH is not a number of bits below 2^64: ''",
     );
     misuses(
         &["bits", "-q", "a", "0", "1"],
@@ -103,6 +103,21 @@ fn messages_keep_to_their_line() {
     misuses(&[wild], &format!("no such command: {said}"));
     let option = format!("--{wild}");
     misuses(&["check", &option], &format!("no such option: --{said}"));
+}
+
+#[test]
+fn an_empty_name_is_seen_in_messages() {
+    let room = Room::of("an_empty_name");
+    room.put("in", &ac3());
+    let none = "zela: '': No such file or directory (os error 2)\n";
+    room.writes(&["check", ""], 3, "", none);
+    room.writes(&["bits", "", "0", "1"], 3, "", none);
+    room.writes(&["repair", "", "out"], 3, "", none);
+    room.writes(&["repair", "in", ""], 3, "", none);
+    room.writes(&["repair", "-i", ""], 3, "", none);
+    assert_eq!(room.list(), ["in"]);
+    let command = "zela: no such command: ''\nTry 'zela --help'.\n";
+    room.writes(&[""], 2, "", command);
 }
 
 #[test]
