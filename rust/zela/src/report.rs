@@ -85,7 +85,15 @@ fn text<T: Told>(things: &[T], total: Option<String>) -> String {
 
 /// A text that keeps to its line, and moves nothing on a terminal.
 pub fn printable(text: &str) -> String {
-    text.replace(char::is_control, "?")
+    text.replace(moves, "?")
+}
+
+/// Whether a sign moves others: a control sign, the end of a line or a paragraph, or one that turns the
+/// direction of writing.
+fn moves(sign: char) -> bool {
+    sign.is_control()
+        || matches!(sign, '\u{61c}' | '\u{200e}' | '\u{200f}')
+        || matches!(sign, '\u{2028}'..='\u{202e}' | '\u{2066}'..='\u{2069}')
 }
 
 fn line<T: Told>(cells: &[String], widths: &[usize]) -> String {
@@ -131,7 +139,7 @@ fn json_string(text: &str) -> String {
     for sign in text.chars() {
         match sign {
             '"' | '\\' => quoted.extend(['\\', sign]),
-            sign if sign.is_control() => quoted += &format!("\\u{:04x}", u32::from(sign)),
+            sign if moves(sign) => quoted += &format!("\\u{:04x}", u32::from(sign)),
             sign => quoted.push(sign),
         }
     }
@@ -164,8 +172,8 @@ mod tests {
 
     #[test]
     fn json_text_is_escaped() {
-        let text = "a\"b\\c\n\u{7f}é";
-        assert_eq!(json_string(text), r#""a\"b\\c\u000a\u007fé""#);
+        let text = "a\"b\\c\n\u{7f}\u{202e}é";
+        assert_eq!(json_string(text), r#""a\"b\\c\u000a\u007f\u202eé""#);
     }
 
     #[test]
@@ -178,7 +186,11 @@ mod tests {
     }
 
     #[test]
-    fn a_table_shows_no_control_sign() {
+    fn a_table_shows_no_sign_that_moves_others() {
         assert_eq!(printable("a\n\u{1b}b"), "a??b");
+        assert_eq!(printable("\u{202e}gnp.3ca\u{202c}"), "?gnp.3ca?");
+        assert_eq!(printable("\u{61c}\u{200e}\u{200f}"), "???");
+        assert_eq!(printable("\u{2028}\u{2066}\u{2069}"), "???");
+        assert_eq!(printable("é\u{5d0}\u{2010}"), "é\u{5d0}\u{2010}");
     }
 }

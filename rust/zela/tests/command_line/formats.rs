@@ -35,18 +35,18 @@ empty,false,,0,0,0.000000,,0,0,0,0,0,0,0.000000,3,under 6 bytes of header
 fn json_has_an_object_for_each_file() {
     let room = Room::of("json");
     room.put("good.ac3", &ac3());
-    room.put("a\"b\\c\n", &ac3()[..1000]);
-    let words = ["check", "--format", "json", "good.ac3", "a\"b\\c\n"];
+    room.put("a\"b\\c\n\u{202e}", &ac3()[..1000]);
+    let words = ["check", "--format", "json", "good.ac3", "a\"b\\c\n\u{202e}"];
     let json = r#"[
   {"file": "good.ac3", "good": true, "codec": "AC-3", "bytes": 3328, "frames": 13, "seconds": 0.416000, "bit_rate": 64000, "crc1_good": 13, "crc1_bad": 0, "crc2_good": 13, "crc2_bad": 0, "skipped_bytes": 0, "bad_offset": null, "bad_seconds": null, "bad_refusal": null, "bad_words": null},
-  {"file": "a\"b\\c\u000a", "good": false, "codec": "AC-3", "bytes": 1000, "frames": 3, "seconds": 0.096000, "bit_rate": 64000, "crc1_good": 3, "crc1_bad": 0, "crc2_good": 3, "crc2_bad": 0, "skipped_bytes": 232, "bad_offset": 768, "bad_seconds": 0.096000, "bad_refusal": 1, "bad_words": "the frame breaks off after 232 of 256 bytes"}
+  {"file": "a\"b\\c\u000a\u202e", "good": false, "codec": "AC-3", "bytes": 1000, "frames": 3, "seconds": 0.096000, "bit_rate": 64000, "crc1_good": 3, "crc1_bad": 0, "crc2_good": 3, "crc2_bad": 0, "skipped_bytes": 232, "bad_offset": 768, "bad_seconds": 0.096000, "bad_refusal": 1, "bad_words": "the frame breaks off after 232 of 256 bytes"}
 ]
 "#;
     room.writes(&words, 1, json, "");
     let read = Json::of(json);
     assert_eq!(
         read.list()[1].at("file"),
-        &Json::Text("a\"b\\c\n".to_string())
+        &Json::Text("a\"b\\c\n\u{202e}".to_string())
     );
     assert_eq!(read.list()[1].at("bad_refusal"), &Json::Number(1.0));
     for object in read.list() {

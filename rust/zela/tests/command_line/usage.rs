@@ -88,8 +88,8 @@ fn after_two_dashes_no_word_is_an_option() {
 #[test]
 fn messages_keep_to_their_line() {
     let room = Room::of("messages");
-    let wild = "\u{1b}[31m\nzela: all good";
-    let said = "?[31m?zela: all good";
+    let wild = "\u{1b}[31m\nzela: \u{202e}all good";
+    let said = "?[31m?zela: ?all good";
     let none = format!("zela: {said}: No such file or directory (os error 2)\n");
     room.writes(&["check", wild], 3, "", &none);
     room.writes(&["bits", wild, "0", "1"], 3, "", &none);
