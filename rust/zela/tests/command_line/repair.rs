@@ -297,6 +297,23 @@ fn a_write_that_fails_leaves_the_old_file() {
     assert_eq!(room.list(), ["in", "out"]);
 }
 
+#[test]
+fn a_run_that_is_killed_leaves_the_old_file_and_a_draft() {
+    let room = Room::of("a_run_that_is_killed");
+    room.put("out", b"old");
+    let mut command = room.command(&["repair", "-", "out"]);
+    let mut child = command.stdin(Stdio::piped()).spawn().unwrap();
+    let draft = format!(".zela-{}-0.tmp", child.id());
+    // Once the draft is there, the run waits for its input.
+    while !room.path(&draft).exists() {
+        assert_eq!(child.try_wait().unwrap(), None);
+    }
+    child.kill().unwrap();
+    assert_eq!(child.wait().unwrap().code(), None);
+    assert_eq!(room.get("out"), b"old");
+    assert_eq!(room.list(), [draft.as_str(), "out"]);
+}
+
 /// Repairs `in` to `out` by a run that finds its first drafts' names taken, so many of them.
 fn run_beside_drafts(room: &Room, taken: u32) -> Ran {
     let script = "n=0; while [ $n -lt $1 ]; do echo left > .zela-$$-$n.tmp; n=$((n+1)); done

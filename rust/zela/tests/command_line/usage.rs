@@ -1,6 +1,9 @@
 //! Help, version and misuse.
 
-use crate::room::{ac3, Room};
+use crate::room::{ac3, Ran, Room};
+use std::ffi::OsStr;
+use std::fs;
+use std::os::unix::ffi::OsStrExt;
 
 const MANUAL: &str = include_str!("../../zela.1");
 
@@ -103,6 +106,23 @@ fn messages_keep_to_their_line() {
     misuses(&[wild], &format!("no such command: {said}"));
     let option = format!("--{wild}");
     misuses(&["check", &option], &format!("no such option: --{said}"));
+}
+
+#[test]
+fn what_is_not_utf_8_in_a_name_is_replaced() {
+    let room = Room::of("not_utf_8");
+    let name = OsStr::from_bytes(b"a\xFF");
+    let run = || {
+        let ran = room.command(&["check", "--format=csv"]).arg(name).output();
+        Ran::of(ran.unwrap())
+    };
+    let missing = run();
+    let err = "zela: a\u{FFFD}: No such file or directory (os error 2)\n";
+    assert_eq!((missing.status, missing.err.as_str()), (3, err));
+    fs::write(room.path("").join(name), ac3()).unwrap();
+    let read = run();
+    let line = "a\u{FFFD},true,AC-3,3328,13,0.416000,64000,13,0,13,0,0,,,,\n";
+    read.is(0, &[missing.out.as_str(), line].concat(), "");
 }
 
 #[test]
