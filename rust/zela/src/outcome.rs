@@ -5,6 +5,7 @@ use crate::standard::standard;
 use std::ffi::OsStr;
 use std::fmt::Display;
 use std::io::{self, ErrorKind, Write};
+use std::os::fd::AsFd;
 use std::process::ExitCode;
 
 /// The exit status; of several the greatest is the run's.
@@ -52,25 +53,27 @@ impl Failure {
         }
     }
 
-    /// Says it on standard error.
+    /// Says it on standard error; where that is closed there is nobody to tell.
     pub fn tell(&self) -> Outcome {
         if !self.words.is_empty() {
-            say(&format!("zela: {}", self.words));
+            let _ = put(io::stderr(), &format!("zela: {}\n", self.words));
         }
         self.outcome
     }
 }
 
-/// A line on standard error; where that is closed there is nobody to tell.
-pub fn say(line: &str) {
-    let _ = writeln!(io::stderr(), "{line}");
-}
-
 /// Writes a report to standard output.
 pub fn print(text: &str) -> Result<(), Failure> {
-    standard(io::stdout())
-        .and_then(|mut out| out.write_all(text.as_bytes()))
-        .map_err(|e| Failure::standard_output("standard output", &e))
+    put(io::stdout(), text).map_err(|e| Failure::standard_output("standard output", &e))
+}
+
+/// Writes a report to standard error, since standard output is not for it.
+pub fn print_aside(text: &str) -> Result<(), Failure> {
+    put(io::stderr(), text).map_err(|e| Failure::io("standard error", &e))
+}
+
+fn put(stream: impl AsFd, text: &str) -> io::Result<()> {
+    standard(stream)?.write_all(text.as_bytes())
 }
 
 /// A file's name for reports; what is not UTF-8 in it is replaced.

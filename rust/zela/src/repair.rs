@@ -4,7 +4,7 @@ use crate::args::Shown;
 use crate::core;
 use crate::frames::{Frame, Frames, Item};
 use crate::input::{spoken, Input};
-use crate::outcome::{name, print, said, say, Failure, Outcome};
+use crate::outcome::{name, print, print_aside, said, Failure, Outcome};
 use crate::output::{self, Output};
 use crate::report::{report, Side, Told, Value};
 use crate::same::are_same;
@@ -156,7 +156,7 @@ impl Done {
         let text = report(&[self], None, shown.format);
         match (shown.quiet, is_stream) {
             (true, _) => {}
-            (false, true) => say(text.trim_end()),
+            (false, true) => print_aside(&text)?,
             (false, false) => print(&text)?,
         }
         Ok(outcome)

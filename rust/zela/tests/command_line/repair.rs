@@ -450,6 +450,21 @@ fn a_report_that_fails_takes_no_file_back() {
 }
 
 #[test]
+fn a_report_on_standard_error_that_fails_takes_no_frame_back() {
+    let room = Room::of("a_report_on_standard_error");
+    room.put("in", &ac3());
+    let lost = |words: &[&str]| {
+        let mut command = room.command(words);
+        command.stderr(File::open(room.path("in")).unwrap());
+        let ran = command.output().unwrap();
+        assert_eq!(ran.stdout, ac3());
+        ran.status.code()
+    };
+    assert_eq!(lost(&["repair", "in", "-"]), Some(3));
+    assert_eq!(lost(&["repair", "-q", "in", "-"]), Some(0));
+}
+
+#[test]
 fn the_file_of_standard_output_is_written_through_it() {
     let room = Room::of("file_of_standard_output");
     room.put("in", &ac3());
