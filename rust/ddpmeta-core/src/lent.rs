@@ -14,18 +14,21 @@ static LENT: OnceLock<([u16; 150], [u8; 256])> = OnceLock::new();
 /// With 21 where an entry can't be handed over, or other tables were lent before. What the core asks of the
 /// entries it tests in each allocation.
 pub fn lend(hearing: &[i16; 150], log_add: &[i32; 256]) -> Result<()> {
-    let unfit = || refused("lend", unfit(Why::BadTables, 0));
-    let mut tables = ([0; 150], [0; 256]);
-    for (to, from) in tables.0.iter_mut().zip(hearing) {
-        *to = u16::try_from(*from).map_err(|_| unfit())?;
+    match entries(hearing).zip(entries(log_add)) {
+        Some(tables) if *LENT.get_or_init(|| tables) == tables => Ok(()),
+        _ => Err(refused("lend", unfit(Why::BadTables, 0))),
     }
-    for (to, from) in tables.1.iter_mut().zip(log_add) {
-        *to = u8::try_from(*from).map_err(|_| unfit())?;
+}
+
+/// A table's entries in the core's form; none where one can't be handed over.
+fn entries<F: Copy, T: Copy + Default + TryFrom<F>, const N: usize>(
+    table: &[F; N],
+) -> Option<[T; N]> {
+    let mut entries = [T::default(); N];
+    for (to, from) in entries.iter_mut().zip(table) {
+        *to = T::try_from(*from).ok()?;
     }
-    if *LENT.get_or_init(|| tables) == tables {
-        return Ok(());
-    }
-    Err(unfit())
+    Some(entries)
 }
 
 /// The tables that were lent; until then empty ones, which the core refuses with 21.
