@@ -3,8 +3,8 @@
 use mathlib.Core.Path.{_≡_, refl, sym, ap, _∙_, subst}
 use mathlib.Core.List.{List}
 use Prim.Native.Nat.{ℕ, zero, suc, _+_, _*_, _-_, _/_, _%_, _^_, _≤_, _<_}
-use native.Mathlib.Nat.{pow-suc, mod-lt, add-zero, add-suc, add-assoc, div-one, mod-one}
-use native.Mathlib.Numerals.{add-one, one-add}
+use native.Mathlib.Nat.{pow-suc, mod-lt, mod-one}
+use native.Mathlib.Numerals.{add-one}
 use native.Mathlib.Omega.{arith}
 use lib.ListN.{length, getD, set, length-set}
 use lib.Seq.{getD-set-same, getD-set-other, set-out}
@@ -127,13 +127,6 @@ bitsAt-setBits bs pos (suc n) v h =
     let b : bitAt ds (pos + n) ≡ v % 2 = bitAt-setBit cs (pos + n) (v % 2) (omega arith) (rw (length-setBits bs pos n (v / 2)) (omega arith)) in
     let m : v % 2 ^ suc n ≡ v / 2 ^ 1 % 2 ^ n * 2 ^ 1 + v % 2 ^ 1 = ap (λ (x : ℕ). v % 2 ^ x) (sym (add-one n)) ∙ mod-pow-add v n 1 in
     rw (a, b, m)
-
--- n + m bits set are the upper n and then the lower m
-pub setBits-add : (bs : List ℕ) (pos n m v : ℕ) → setBits bs pos (n + m) v ≡ setBits (setBits bs pos n (v / 2 ^ m)) (pos + n) m v
-unfolding setBits
-setBits-add bs pos n zero v = rw (add-zero n, div-one v)
-setBits-add bs pos n (suc m) v =
-    rw (add-suc n m, setBits-add bs pos n m (v / 2), shr-shr v 1 m, one-add m, add-assoc pos n m)
 
 pub setBits-zero : (bs : List ℕ) (pos v : ℕ) → setBits bs pos 0 v ≡ bs
 unfolding setBits

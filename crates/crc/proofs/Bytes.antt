@@ -12,7 +12,7 @@ use lib.Bits.{bitXor, xor-zero-r, xor-comm, xor-shifted}
 use Rattle.crc.specs.Crc.{poly, shift, byteIn, crcOf, idle}
 use Rattle.crc.proofs.Xor.{xor-assoc, xor-shl}
 use Rattle.crc.proofs.Below.{below}
-use Rattle.crc.proofs.Linear.{idle-linear, idle-add, idle-shift, byte-idle, eight}
+use Rattle.crc.proofs.Linear.{idle-linear, idle-add, byte-idle, eight}
 
 -- a register whose top bit is 0 only moves up
 pub shift-up : (c : ℕ) → c < 2 ^ 15 → shift c 0 ≡ c * 2
@@ -32,10 +32,6 @@ idle-up (suc n) c h =
     let l : c * 2 ≤ c * 2 * 2 ^ n = le-mul-of-pos-right (c * 2) (pow-pos n) in
     let small : c < 2 ^ 15 = omega arith in
     ap (idle n) (shift-up c small) ∙ idle-up n (c * 2) k ∙ sym p
-
--- twice a start value leads one step further: so the image of each bit follows from that of the bit below
-pub idle-double : (n c : ℕ) → c < 2 ^ 15 → idle n (c * 2) ≡ shift (idle n c) 0
-idle-double n c h = ap (idle n) (sym (shift-up c h)) ∙ idle-shift n c
 
 -- a low byte becomes the high byte in eight steps
 pub idle-low : (x : ℕ) → x < 2 ^ 8 → idle 8 x ≡ x * 2 ^ 8

@@ -1,14 +1,14 @@
--- One turn and the end of a loop over bytes, forwards and backwards: what the rest of the bytes makes of the register stays the same.
+-- One turn and the end of a loop over bytes: what the rest of the bytes makes of the register stays the same.
 -- Assumes nothing.
-use mathlib.Core.Path.{_≡_, refl, sym, ap, _∙_}
+use mathlib.Core.Path.{_≡_, refl, ap, _∙_}
 use mathlib.Core.List.{List}
 use Prim.Native.Nat.{ℕ, zero, suc, _+_, _-_, _<_, _≤_}
 use native.Mathlib.Nat.{not-suc-le-zero}
 use native.Mathlib.Numerals.{add-one}
 use native.Mathlib.Omega.{arith}
 use lib.ListN.{length, drop, getD, replicate, drop-of-length-le}
-use lib.Seq.{drop-cons, drop-length}
-use Rattle.crc.specs.Crc.{byteIn, crcOf, byteOut, crcFrom}
+use lib.Seq.{drop-cons}
+use Rattle.crc.specs.Crc.{byteIn, crcOf}
 
 -- one byte more
 pub crc-next : (c r : ℕ) (xs : List ℕ) (i : ℕ) → i < length xs → r ≡ byteIn c (getD xs i 0) → crcOf r (drop (i + 1) xs) ≡ crcOf c (drop i xs)
@@ -27,25 +27,6 @@ crc-next-two c r xs i h e =
 pub crc-end : (c : ℕ) (xs : List ℕ) (i : ℕ) → length xs ≤ i → crcOf c (drop i xs) ≡ c
 unfolding crcOf
 crc-end c xs i h = rw drop-of-length-le
-
--- a run backwards begins after the last byte
-pub back-start : (end : ℕ) (xs : List ℕ) → end ≡ crcFrom end (drop (length xs) xs)
-unfolding crcFrom
-back-start end xs = rw drop-length
-
--- one byte undone
-pub back-next : (end d r : ℕ) (xs : List ℕ) (i : ℕ) → 0 < i → i ≤ length xs → d ≡ crcFrom end (drop i xs) → r ≡ byteOut d (getD xs (i - 1) 0)
-    → r ≡ crcFrom end (drop (i - 1) xs)
-unfolding crcFrom
-back-next end d r xs i h k e q =
-    let p : suc (i - 1) ≡ i = omega arith in
-    let l : i - 1 < length xs = omega arith in
-    q ∙ ap (λ (y : ℕ). byteOut y (getD xs (i - 1) 0)) (e ∙ ap (λ (n : ℕ). crcFrom end (drop n xs)) (sym p)) ∙ ap (crcFrom end) (sym (drop-cons xs (i - 1) 0 l))
-
--- all bytes are undone
-pub back-end : (end d : ℕ) (xs : List ℕ) (i : ℕ) → i ≤ 0 → d ≡ crcFrom end (drop i xs) → d ≡ crcFrom end xs
-back-end end d xs zero h e = e
-back-end end d xs (suc i) h e = absurd (not-suc-le-zero h)
 
 -- one zero byte more
 pub zeros-next : (c r i : ℕ) → 0 < i → r ≡ byteIn c 0 → crcOf r (replicate (i - 1) 0) ≡ crcOf c (replicate i 0)

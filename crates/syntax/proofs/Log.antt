@@ -3,14 +3,12 @@
 use Prim.Native.Nat.{ℕ, suc, _+_, _-_, _*_, _≤_, _<_}
 use mathlib.Core.Path.{_≡_, _∙_, subst}
 use mathlib.Core.List.{List, [], _∷_, _++_, append-assoc}
-use mathlib.Core.Logic.{_⊎_, ⊎-elim}
 use native.Mathlib.Nat.{add-zero}
 use native.Mathlib.Omega.{arith}
 use lib.ListN.{length, getD, take, drop, set, length-append, length-drop, List·getD-append}
 use lib.Seq.{getD-take, getD-drop, getD-append-add, length-take-le, sets-eq}
 use Rattle.syntax.specs.declared.Element.{Element}
 use Rattle.syntax.specs.Elements.{words, written, decoded, Typed}
-use Rattle.syntax.proofs.Bools.{lt-or-ge}
 use Rattle.syntax.proofs.Roles.{role-back}
 use Rattle.syntax.proofs.Signed.{index-back, block-back}
 
@@ -69,11 +67,6 @@ module _ (log : List ℕ) (k : ℕ) (e : Element) (room : 8 * k + 8 ≤ length l
       (getD-append-add (take (8 * k) log ++ words e) (drop (8 * k + 8) log) j 0 ∙ getD-drop (8 * k + 8) log j 0) in
       rw s at a
 
-  -- the words of any other element
-  pub written-other : (j : ℕ) → (j ≡ k → ⊥) → (i : ℕ) → i < 8 → getD (written log k e) (8 * j + i) 0 ≡ getD log (8 * j + i) 0
-  written-other j ne i h =
-      ⊎-elim (λ (l : j < k). written-before (8 * j + i) (omega arith)) (λ (g : k ≤ j). written-after (8 * j + i) (omega arith)) (lt-or-ge j k)
-
   -- the element is read back
   pub decoded-written : Typed e → decoded (written log k e) k ≡ e
   decoded-written t =
@@ -88,17 +81,3 @@ module _ (log : List ℕ) (k : ℕ) (e : Element) (room : 8 * k + 8 ≤ length l
         written-at 6 (omega arith),
       )
       (decode-encode e t)
-
-  -- and so is any other, as it was
-  pub decoded-other : (j : ℕ) → (j ≡ k → ⊥) → decoded (written log k e) j ≡ decoded log j
-  decoded-other j ne =
-      let n : getD (written log k e) (8 * j) 0 ≡ getD log (8 * j) 0 = rw (add-zero (8 * j)) at (written-other j ne 0 (omega arith)) in
-      rw (
-        n,
-        written-other j ne 1 (omega arith),
-        written-other j ne 2 (omega arith),
-        written-other j ne 3 (omega arith),
-        written-other j ne 4 (omega arith),
-        written-other j ne 5 (omega arith),
-        written-other j ne 6 (omega arith),
-      )

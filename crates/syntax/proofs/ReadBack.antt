@@ -1,7 +1,7 @@
--- The element just logged is read back out of the log, and every other as it was.
+-- The element just logged is read back out of the log.
 -- Assumes nothing.
 use Prim.Native.Nat.{ℕ, _+_, _-_, _*_, _≤_, _<_}
-use mathlib.Core.Path.{_≡_, sym, ap, _∙_}
+use mathlib.Core.Path.{_≡_, ap, _∙_}
 use mathlib.Core.List.{List}
 use native.Mathlib.Omega.{arith}
 use lib.ListN.{length}
@@ -13,7 +13,7 @@ use Rattle.syntax.specs.declared.Ask.{Ask}
 use Rattle.syntax.specs.Elements.{written, decoded, Typed}
 use Rattle.syntax.specs.Reads.{Standing, room, elementOf, spanAsk, readOf, spanOf, closeOf}
 use Rattle.syntax.specs.Tiling.{elementAt}
-use Rattle.syntax.proofs.Log.{decoded-written, decoded-other}
+use Rattle.syntax.proofs.Log.{decoded-written}
 use Rattle.syntax.proofs.Tests.{room-words}
 use Rattle.syntax.proofs.ReadLaws.{room-on, read-taken, span-taken, close-taken}
 
@@ -29,13 +29,6 @@ module _ (log : List ℕ) (k : ℕ) (e : Element) (r : k < room (length log)) wh
   -- the element that was written
   pub element-back : Typed e → elementAt (written log k e) (k + 1) k ≡ taken e
   element-back t = element-inside (written log k e) (k + 1) k (room-on log k e r) (omega arith) ∙ ap taken (decoded-written log k e fits-in t)
-
-  -- one before it
-  pub element-other : (j : ℕ) → j < k → elementAt (written log k e) (k + 1) j ≡ elementAt log k j
-  element-other j h =
-      element-inside (written log k e) (k + 1) j (room-on log k e r) (omega arith)
-      ∙ ap taken (decoded-other log k e fits-in j (λ q. omega arith))
-      ∙ sym (element-inside log k j (omega arith) h)
 
 -- after a read that was taken
 pub read-back : (frame : List ℕ) (st : Standing) (a : Ask) (v : ℕ) → Typed (elementOf (st .place) (st .place .pos) a v) → readOf frame st a .outcome ≡ taken v

@@ -5,7 +5,7 @@ use Prim.Native.Nat.{ℕ, _+_, _-_, _*_, _^_, _≤_, _<_}
 use mathlib.Core.Path.{_≡_, refl, sym, ap, _∙_, subst}
 use mathlib.Core.List.{List, [], _∷_}
 use mathlib.Core.Bool.{_||_}
-use mathlib.Core.Logic.{_⊎_, inl, inr, ⊎-elim}
+use mathlib.Core.Logic.{_⊎_, inl, ⊎-elim}
 use native.Mathlib.Omega.{arith}
 use lib.ListN.{length, getD}
 use lib.Dec.{ltb}
@@ -189,16 +189,6 @@ module _ (frame : List ℕ) (p : Place) (width : ℕ) where
         after = s .1;
       }
 
-  -- a refused one stays, and tells 6 or 1 at the cursor's bit
-  pub raw-refused : (g : Grounds) → rawOf frame p width .outcome ≡ refused g → (rawOf frame p width .state ≡ p) × Told (6 ∷ 1 ∷ []) (p .pos) g
-  unfolding rawOf
-  raw-refused g e =
-      let s = stayed p (ahead p width) _ e in (
-        s .1,
-        told-first (6 ∷ 1 ∷ []) (unsound (length frame) p || ltb 32 width) _ _ (s .0) (inl refl)
-            (λ r. told-first (6 ∷ 1 ∷ []) (ltb (p .limit) (p .pos + width)) _ _ r (inr refl) (λ n. never (sym n))),
-      )
-
   -- a narrow one with room to the limit is taken
   pub raw-inside : p .limit ≤ 32768 → p .limit ≤ 8 * length frame → width ≤ 32 → p .pos + width ≤ p .limit
       → rawOf frame p width ≡ record { outcome = taken (bitsAt frame (p .pos) width); state = ahead p width }
@@ -238,9 +228,6 @@ module _ (len : ℕ) (st : Standing) (name : ℕ) (role : Role) (width : ℕ) wh
       (λ g e. subst P (sym (span-refused g e .0)) s)
       (λ u e. let r = span-taken e in subst P (sym (r .1)) (t (r .0)))
 
-  pub span-room : Roomy st → Roomy (spanOf len st name role width .state)
-  span-room h = span-either Roomy h (λ f. room-on (st .log) (st .place .count) _ (f .room-left))
-
   pub span-keeps : Keeps st (spanOf len st name role width .state)
   span-keeps =
       span-either (Keeps st) (keeps-all st)
@@ -279,9 +266,6 @@ module _ (len : ℕ) (st : Standing) (name : ℕ) (role : Role) (start : ℕ) wh
       (λ g e. subst P (sym (close-refused g e .0)) s)
       (λ u e. let r = close-taken e in subst P (sym (r .1)) (t (r .0)))
 
-  pub close-room : Roomy st → Roomy (closeOf len st name role start .state)
-  close-room h = close-either Roomy h (λ f. room-on (st .log) (st .place .count) _ (f .room-left))
-
   pub close-keeps : Keeps st (closeOf len st name role start .state)
   close-keeps =
       close-either (Keeps st) (keeps-all st)
@@ -312,6 +296,3 @@ module _ (frame : List ℕ) (a : Ask) (r : Ran Standing ℕ) where
   next-keeps =
       next-either (Keeps (r .state)) (keeps-all (r .state))
       (λ v t. keeps-logged (r .state) _ _ (room-words (length (r .state .log)) (r .state .place .count) (t .free .room-left) .1))
-
-  pub next-room : Roomy (r .state) → Roomy (nextOf frame a r .state)
-  next-room h = next-either Roomy h (λ v t. room-on (r .state .log) (r .state .place .count) _ (t .free .room-left))

@@ -15,14 +15,13 @@ use denote.Shadow.{shadow}
 use mir.Val.{Val}
 use Rattle.syntax.specs.declared.Role.{Role}
 use Rattle.syntax.specs.declared.Role.the-variants.{Plain, Sync, Crc1, Crc2, CrcRsv, FrameSize, Dialnorm, ComprExists, Compr, DynrngExists, Dynrng, Skiple, Skipl, Skipfld, Addbsi, Mantissas, AuxBits, AuxDataL, AuxDataE, BlkStrtInfoE, BlkStrtInfo}
-use Rattle.syntax.specs.Elements.{programmeOf, words, decoded, Typed}
+use Rattle.syntax.specs.Elements.{programmeOf, Typed}
 use Rattle.syntax.specs.declared.Reading.{Reading}
 use Rattle.syntax.specs.declared.Moved.{Moved}
 use Rattle.syntax.specs.Reads.{Standing, standing, elementOf, spanAsk}
 use Rattle.syntax.specs.Tiling.{elementAt}
 use Rattle.refusal.specs.Refusals.{taken, Ran}
 use Rattle.bits.specs.Answers.{gotOf, doneOf}
-use Rattle.syntax.proofs.Log.{decode-encode}
 use Rattle.syntax.proofs.ReadBack.{read-back, span-back, close-back}
 use Rattle.syntax.proofs.Role as role
 use Rattle.syntax.proofs.end.Kinds as end-kinds
@@ -60,9 +59,6 @@ role-typed BlkStrtInfo us s = omega arith
 -- any element that the code holds, as the parameter of `end`, is typed, so its words decode to it
 pub element-typed : (κs : Lfts 0) (a : Dens κs end-kinds.ps) → GoodsP κs end-kinds.ps a → Typed (a .0)
 element-typed κs a g = record { programme = role-typed (a .0 .role) _ (g .0 .1 .1 .1 .0); block = search needs; index = search needs }
-
-pub element-decodes : (κs : Lfts 0) (a : Dens κs end-kinds.ps) → GoodsP κs end-kinds.ps a → decoded (words (a .0)) 0 ≡ a .0
-element-decodes κs a g = decode-encode (a .0) (element-typed κs a g)
 
 -- of the parameters of `read_element`: frame, log, place, ask
 pub read-typed : (κs : Lfts 2) (a : Dens κs read-element-kinds.ps) → GoodsP κs read-element-kinds.ps a

@@ -1,7 +1,6 @@
 -- `bits::word` meets its contract: both ways answer the bits.
 -- Assumes nothing.
 use borrow.Author.Needs.{needs}
-use native.Mathlib.Omega.{arith}
 use Rattle.bits.proofs.word.Statement.{statement}
 use Rattle.bits.proofs.word.Tie as tie
 
