@@ -11,16 +11,17 @@ use lib.Dec.{eqb, leb, ltb, leb→le}
 use lib.Pow.{shl-exact}
 use lib.ListN.{length, getD}
 use lib.Seq.{slice, slice-cons, slice-empty}
-use borrow.Author.Tests.{lt-ltb, le-ltb, eq-eqb, ne-eqb}
+use borrow.Author.Tests.{ltb-true, lt-ltb, le-ltb, eq-eqb, ne-eqb}
 use Rattle.refusal.specs.declared.Why.{Why}
 use Rattle.refusal.specs.Refusals.{Grounds, grounds, numberOf, Outcome, taken, refused, andThen, Ran, follow}
 use Rattle.refusal.proofs.Laws.{never, run-on, run-stays}
 use Rattle.bits.specs.Bits.{bitsAt}
+use Rattle.bits.proofs.Laws.{bitsAt-zero}
 use Rattle.syntax.specs.declared.Place.{Place}
 use Rattle.syntax.specs.Reads.{unsound, rawOf}
 use Rattle.refusal.proofs.TestLaws.{or-false}
 use Rattle.syntax.proofs.Tests.{sound-limit}
-use Rattle.syntax.proofs.ReadLaws.{raw-taken, raw-inside}
+use Rattle.syntax.proofs.ReadLaws.{raw-taken, raw-inside, raw-past}
 use Rattle.tables.proofs.BandLaws.{below-at}
 use Rattle.walks.proofs.Laws.{range-says}
 use Rattle.aht.specs.declared.Course.{Course}
@@ -57,8 +58,7 @@ module _ (most : ℕ) (t : Tally) where
 
 -- a walk that has read nothing
 pub begun-is : (frame : List ℕ) (p : Place) → tallyOf frame p (record { pos = p .pos; last = 0; tags = 0; course = course.On }) ≡ begun p
-unfolding bitsAt
-begun-is frame p = refl
+begun-is frame p = ap {B = Walk} (λ (v : ℕ). record { outcome = taken v; state = tallied p 0 }) (bitsAt-zero frame (p .pos - 0))
 
 -- 2. The ends of the steps, with r the walk so far.
 
@@ -144,14 +144,13 @@ module _ (r : Walk) where
 
 -- n bits after a walk that goes on, from a sound place
 module _ (frame : List ℕ) (p : Place) (n : ℕ) (t : Tally) (s : unsound (length frame) p ≡ false) (narrow : n ≤ 32) (e : t .course ≡ course.On) where
-  raw-past : ltb (p .limit) (t .pos + n) ≡ true
-      → _≡_ {A = Ran Place ℕ} (record { outcome = refused (grounds 1 (t .pos)); state = placeAt p (t .pos) }) (rawOf frame (placeAt p (t .pos)) n)
-  unfolding rawOf
-  raw-past h = simp (s, le-ltb 32 n narrow, h)
-
   pub read-past : ltb (p .limit) (t .pos + n) ≡ true
       → _≡_ {A = Walk} (record { outcome = refused (grounds 1 (t .pos)); state = tallied (placeAt p (t .pos)) (t .tags) }) (readOn frame n (tallyOf frame p t))
-  read-past h = read-on (tallyOf frame p t) frame n _ (raw-past h) (goes-on frame t e)
+  read-past h =
+      let l = sound-limit (length frame) p s in
+      read-on (tallyOf frame p t) frame n _
+      (sym (raw-past frame (placeAt p (t .pos)) n (l .0) (l .1) narrow (ltb-true (p .limit) (t .pos + n) h)))
+      (goes-on frame t e)
 
   pub read-within : t .pos + n ≤ p .limit
       → _≡_ {A = Walk} (record { outcome = taken (bitsAt frame (t .pos + n - n) n); state = tallied (placeAt p (t .pos + n)) (t .tags) })

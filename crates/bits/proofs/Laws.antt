@@ -16,6 +16,11 @@ pub bitAt-lt : (bs : List ℕ) (k : ℕ) → bitAt bs k < 2
 unfolding bitAt
 bitAt-lt bs k = omega arith
 
+-- a bit is one of its byte's
+pub bitAt-in : (bs : List ℕ) (k : ℕ) → bitAt bs k ≡ getD bs (k / 8) 0 / 2 ^ (7 - k % 8) % 2
+unfolding bitAt
+bitAt-in bs k = refl
+
 -- bit off of byte at, off counted from the top
 pub bitAt-byte : (bs : List ℕ) (at off : ℕ) → off < 8 → bitAt bs (8 * at + off) ≡ getD bs at 0 / 2 ^ (7 - off) % 2
 unfolding bitAt

@@ -19,7 +19,7 @@ use Rattle.tables.specs.declared.Delta.{Delta}
 use Rattle.syntax.specs.declared.Ask.{Ask}
 use Rattle.syntax.specs.declared.Reader.{Reader}
 use Rattle.syntax.specs.Reads.{Standing, standing, seenOf, readerOf, shown, readOf, nextOf}
-use Rattle.syntax.proofs.Ends.{next-on}
+use Rattle.syntax.proofs.Ends.{next-is, next-on}
 use Rattle.syntax.proofs.ReadLaws.{next-taken}
 use Rattle.blocks.specs.declared.AllocState.{AllocState}
 use Rattle.blocks.specs.declared.Told.{Told}
@@ -67,8 +67,7 @@ module _ (frame : List ℕ) where
   -- what follows a reader's value and the next one's
   then-next : {B : Type 0} (a : Ask) (r : Ran Standing ℕ) (f : ℕ → ℕ → Standing → Ran Standing B)
       → thenRun (nextOf frame a r) (f (shown (r .outcome))) ≡ thenRun r (λ v st. thenRun (readOf frame st a) (f v))
-  unfolding nextOf
-  then-next {B} a r f = go (r .outcome)
+  then-next {B} a r f = ap (λ (x : Ran Standing ℕ). thenRun x (f (shown (r .outcome)))) (next-is frame a r) ∙ go (r .outcome)
     where
       go : (o : Outcome ℕ) → thenRun (follow o (r .state) (λ _ st. readOf frame st a)) (f (shown o))
           ≡ follow o (r .state) (λ v st. thenRun (readOf frame st a) (f v))

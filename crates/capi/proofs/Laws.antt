@@ -2,12 +2,12 @@
 -- Assumes nothing.
 use mathlib.Core.Path.{_≡_, refl, ap, ap₂, _∙_}
 use mathlib.Core.List.{List}
-use lib.ListN.{length}
 use Prim.Native.Nat.{ℕ}
-use Rattle.refusal.specs.Refusals.{Outcome, taken, refused, Ran, settle}
+use Rattle.refusal.specs.Refusals.{Outcome, Ran}
 use Rattle.syntax.specs.declared.Place.{Place}
 use Rattle.syntax.specs.declared.Role.{Role}
-use Rattle.syntax.specs.Reads.{Standing, standing, closeOf, closes}
+use Rattle.syntax.specs.Reads.{Standing, standing, closeOf}
+use Rattle.syntax.proofs.ReadLaws.{close-either}
 use Rattle.alloc.specs.declared.Codes.{Codes}
 use Rattle.alloc.specs.declared.Leak.{Leak}
 use Rattle.tables.specs.declared.Delta.{Delta}
@@ -62,15 +62,9 @@ module _ {o : Outcome Unit} {bap : List (List ℕ)} {p : Ran (List (List ℕ)) U
   pub pointed-as : {k b : ℕ} → told k b ≡ toldOf o → pointed k b bap ≡ pointedOf p
   pointed-as t = ap (λ (w : Told). record { told = w; bap = bap }) t ∙ ap pointedOf e
 
--- a state that ends at one position, whether the call is taken or refused
-settled : (s s′ : Standing) (o : Outcome Unit) → s′ .place .pos ≡ s .place .pos → settle s s′ o .state .place .pos ≡ s .place .pos
-settled s s′ (taken a) e = e
-settled s s′ (refused g) e = refl
-
 -- closing a span leaves the cursor where it is
 pub close-stays : (len : ℕ) (st : Standing) (name : ℕ) (role : Role) (start : ℕ) → closeOf len st name role start .state .place .pos ≡ st .place .pos
-unfolding closeOf
-close-stays len st name role start = settled st _ (closes len (length (st .log)) (st .place) start) refl
+close-stays len st name role start = close-either len st name role start (λ s. s .place .pos ≡ st .place .pos) refl (λ f. refl)
 
 -- an allocation by side information that is the same
 pub allocated-alike : (exp : List ℕ) (start end : ℕ) (hearing logAdd : List ℕ) {k k′ : Codes} {l l′ : Leak} {d d′ : Delta} {w w′ : Pointers}

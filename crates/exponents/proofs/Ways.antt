@@ -22,7 +22,7 @@ use Rattle.syntax.specs.declared.Ask.{Ask}
 use Rattle.syntax.specs.declared.Reader.{Reader}
 use Rattle.syntax.specs.Reads.{Standing, standing, seenOf, shown, readerOf, readOf, nextOf}
 use Rattle.refusal.proofs.TestLaws.{or-false}
-use Rattle.syntax.proofs.Ends.{next-on, reader-is}
+use Rattle.syntax.proofs.Ends.{next-is, next-on, reader-is}
 use Rattle.syntax.proofs.ReadLaws.{read-taken}
 use Rattle.exponents.specs.declared.ExpSet.{ExpSet}
 use Rattle.exponents.specs.declared.Exponents.{Exponents}
@@ -80,11 +80,11 @@ module _ (frame : List ℕ) (ask : Ask) (g : ℕ) (w : Run) (log exp : List ℕ)
   old = laid (w .last) (w .next) exp
 
   group-is : unpackOn g old (readerOf read log′) ≡ groupOn frame ask g (runOf w log exp)
-  unfolding unpackOn groupOn nextOf
-  group-is = ap (unpackOn g old) next ∙ go (w .reader .answer)
+  unfolding unpackOn groupOn
+  group-is = ap (unpackOn g old) (next ∙ next-is frame ask (readerOf (w .reader) log)) ∙ go (w .reader .answer)
     where
       go : (a : Put)
-          → unpackOn g old (nextOf frame ask (record { outcome = seenOf a (w .reader .value); state = standing (w .reader .place) log }))
+          → unpackOn g old (thenRun (record { outcome = seenOf a (w .reader .value); state = standing (w .reader .place) log }) (λ _ st. readOf frame st ask))
           ≡ groupOn frame ask g (record { outcome = holding a old; state = standing (w .reader .place) log })
       go put.Done = refl
       go (put.Refused x) = refl

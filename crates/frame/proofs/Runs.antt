@@ -21,7 +21,7 @@ use Rattle.syntax.specs.declared.Role.the-variants.{AuxBits, AuxDataL, AuxDataE
 use Rattle.syntax.specs.Names as names
 use Rattle.syntax.specs.Reads.{Standing, standing, movedOf, seenOf, shown, readerOf, readOf, spanOf, nextOf}
 use Rattle.syntax.specs.Tiling.{tilingOf}
-use Rattle.syntax.proofs.Ends.{reader-is}
+use Rattle.syntax.proofs.Ends.{next-is, reader-is}
 use Rattle.probe.specs.declared.Codec.{Codec}
 use Rattle.frame.specs.declared.Stretch.{Stretch}
 use Rattle.frame.specs.Tail.{hasAux, behind, fitOf, outside, userBits, tailAsk, reservedName, lengthOf, lastOf, tilesOf, elementsOf, tailOf}
@@ -65,8 +65,9 @@ module _ (frame : List ℕ) (width : ℕ) (q : Ran Standing ℕ) (read : Reader)
   measured l st = ends st (refuseIf (ltb width l) 17 (st .place .pos) (taken l))
 
   length-is : thenRun (readerOf read log) measured ≡ thenRun q (λ _ st. lengthOf frame true width st)
-  unfolding nextOf
-  length-is = ap (λ (x : Ran Standing ℕ). thenRun x measured) n ∙ then-then q (λ _ st. readOf frame st (tailAsk names.auxdatal AuxDataL 14)) measured
+  length-is =
+      ap (λ (x : Ran Standing ℕ). thenRun x measured) (n ∙ next-is frame (tailAsk names.auxdatal AuxDataL 14) q)
+      ∙ then-then q (λ _ st. readOf frame st (tailAsk names.auxdatal AuxDataL 14)) measured
 
   -- it exceeds auxbits: it has been read, so its reader was not refused
   pub length-exceeds : width < read .value → (x : Reader) → x .place ≡ read .place → doneOf (x .answer) ≡ refused (grounds 17 (read .place .pos))
@@ -93,14 +94,15 @@ shows-refused a e = sym (ap shown (seen-refused a 0 e))
 pub last-is : (frame : List ℕ) (codec : Codec) (r a b c : Ran Standing ℕ) → a ≡ nextOf frame (tailAsk names.auxdatae AuxDataE 1) r
     → b ≡ nextOf frame (tailAsk (reservedName codec) CrcRsv 1) a → c ≡ nextOf frame (tailAsk names.crc2 Crc2 16) b
     → c ≡ thenRun r (λ _ st. lastOf frame codec st)
-unfolding lastOf nextOf
+unfolding lastOf
 last-is frame codec r a b c p q s =
     let one : ℕ → Standing → Ran Standing ℕ = λ _ st. readOf frame st (tailAsk names.auxdatae AuxDataE 1) in
     let two : ℕ → Standing → Ran Standing ℕ = λ _ st. readOf frame st (tailAsk (reservedName codec) CrcRsv 1) in
     let three : ℕ → Standing → Ran Standing ℕ = λ _ st. readOf frame st (tailAsk names.crc2 Crc2 16) in
     s
-    ∙ ap (λ (x : Ran Standing ℕ). thenRun x three) q
-    ∙ ap (λ (x : Ran Standing ℕ). thenRun (thenRun x two) three) p
+    ∙ next-is frame (tailAsk names.crc2 Crc2 16) b
+    ∙ ap (λ (x : Ran Standing ℕ). thenRun x three) (q ∙ next-is frame (tailAsk (reservedName codec) CrcRsv 1) a)
+    ∙ ap (λ (x : Ran Standing ℕ). thenRun (thenRun x two) three) (p ∙ next-is frame (tailAsk names.auxdatae AuxDataE 1) r)
     ∙ then-then (thenRun r one) two three
     ∙ then-then r one (λ u st. thenRun (two u st) three)
 

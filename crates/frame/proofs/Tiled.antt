@@ -17,11 +17,11 @@ use Rattle.syntax.specs.declared.Role.{Role}
 use Rattle.syntax.specs.declared.Role.the-variants.{AuxBits, AuxDataL, AuxDataE, CrcRsv, Crc2}
 use Rattle.syntax.specs.Names as names
 use Rattle.syntax.specs.Reads.{Standing, standing, room, readOf, spanOf}
-use Rattle.syntax.specs.Tiling.{tiles, tilingOf, Reached}
+use Rattle.syntax.specs.Tiling.{tilingOf, Reached}
 use Rattle.syntax.proofs.Tests.{Told, told-first}
 use Rattle.syntax.proofs.ReadLaws.{read-taken, read-refused, span-taken, span-refused}
 use Rattle.syntax.proofs.Reached.{read-reached, span-reached}
-use Rattle.syntax.proofs.Tiled.{accepted-sum, accepted-one, reaches-tiles}
+use Rattle.syntax.proofs.Tiled.{accepted-sum, accepted-one, reaches-tiling}
 use Rattle.probe.specs.declared.Codec.{Codec}
 use Rattle.frame.specs.declared.Stretch.{Stretch}
 use Rattle.frame.specs.Tail.{unfit, hasAux, behind, fitOf, outside, tailAsk, reservedName, lengthOf, lastOf, tilesOf, elementsOf, tailOf}
@@ -135,10 +135,10 @@ last-leads frame codec x st h =
 
 -- the test for 18, where the log tiles the total: only a count past the room is left
 tiles-fine : (total : ℕ) (user : Stretch) (st : Standing) → At total st → Leads total (tilesOf total user st)
-unfolding tilesOf tilingOf
+unfolding tilesOf
 tiles-fine total user st h =
-    let t : tiles (st .log) (st .place .count) total ≡ true =
-    reaches-tiles (st .log) (st .place .count) total (subst (λ (n : ℕ). Reached (standing (record { pos = n; limit = st .place .limit; block = st .place .block; count = st .place .count }) (st .log))) (h .here) (h .reached)) in
+    let t =
+    reaches-tiling (st .log) (st .place .count) total (subst (λ (n : ℕ). Reached (standing (record { pos = n; limit = st .place .limit; block = st .place .block; count = st .place .count }) (st .log))) (h .here) (h .reached)) in
     rw t (go (ltb (room (length (st .log))) (st .place .count)))
   where
     go : (test : Bool) → Leads total (ends st (andThen (placed total (cond {A = Outcome Unit} test (refused (grounds 6 0)) (taken tt))) (λ _. taken user)))

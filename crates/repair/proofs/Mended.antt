@@ -16,6 +16,7 @@ use borrow.Author.Tests.{eqb-true, eqb-false}
 use Rattle.refusal.specs.Refusals.{Grounds, Outcome, taken, refused, grounds}
 use Rattle.refusal.proofs.Laws.{never, taken-same, past-test, past-then}
 use Rattle.bits.specs.Bits.{bitAt}
+use Rattle.bits.proofs.Laws.{bitAt-in}
 use Rattle.crc.specs.Crc.{poly, crcOf}
 use Rattle.crc.proofs.Linear.{crc-lt}
 use Rattle.crc.proofs.Bytes.{high-lt}
@@ -125,18 +126,20 @@ flip-above : (x e : ℕ) → 0 < e → bitXor x 1 / 2 ^ e ≡ x / 2 ^ e
 flip-above x e h = xor-shr x 1 e ∙ ap (bitXor (x / 2 ^ e)) (div-eq-of-lt (pow-lt h)) ∙ xor-zero-r (x / 2 ^ e)
 
 bit-flipped : (s : List ℕ) (b : ℕ) → 3 ≤ length s → b ≢ 8 * (length s - 2) - 1 → bitAt (flipped s) b ≡ bitAt s b
-unfolding bitAt flipped
+unfolding flipped
 bit-flipped s b h n =
     let m = length s - 3 in
     let x = bitXor (getD s m 0) 1 in
     let hm : m < length s = omega arith in
-    equal-or-not (getD (set s m x) (b / 8) 0 / 2 ^ (7 - b % 8) % 2 ≡ getD s (b / 8) 0 / 2 ^ (7 - b % 8) % 2) (b / 8) m
+    bitAt-in (flipped s) b
+    ∙ equal-or-not (getD (set s m x) (b / 8) 0 / 2 ^ (7 - b % 8) % 2 ≡ getD s (b / 8) 0 / 2 ^ (7 - b % 8) % 2) (b / 8) m
     (λ e.
     let up : 0 < 7 - b % 8 = above (length s) b h e n in
     ap (λ (y : ℕ). y / 2 ^ (7 - b % 8) % 2) (ap (λ (j : ℕ). getD (set s m x) j 0) e ∙ getD-set-same s m x 0 hm)
     ∙ ap (λ (y : ℕ). y % 2) (flip-above (getD s m 0) (7 - b % 8) up)
     ∙ ap (λ (j : ℕ). getD s j 0 / 2 ^ (7 - b % 8) % 2) (sym e))
     (λ e. ap (λ (y : ℕ). y / 2 ^ (7 - b % 8) % 2) (getD-set-other s m (b / 8) x 0 e))
+    ∙ sym (bitAt-in s b)
   where
     last : (l b : ℕ) → 3 ≤ l → b / 8 ≡ l - 3 → 7 - b % 8 ≡ 0 → b ≡ 8 * (l - 2) - 1
     last l b h e z = omega arith

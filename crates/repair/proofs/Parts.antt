@@ -10,6 +10,7 @@ use lib.Pow.{pow-pos, split}
 use lib.ListN.{length, getD, set, take, drop, length-set, length-drop}
 use lib.Seq.{drop-set-add, drop-set-lt, take-set-le, take-all, take-add, take-suc, drop-drop, getD-drop, getD-set-same, getD-set-other, set-getD}
 use Rattle.bits.specs.Bits.{bitAt}
+use Rattle.bits.proofs.Laws.{bitAt-in}
 use Rattle.crc.proofs.Bytes.{high-lt}
 use Rattle.repair.specs.Repair.{part, putWord}
 use Rattle.repair.specs.Mended.{Outside, wordAt, Bytes}
@@ -156,10 +157,11 @@ bytes-put s i v h k b =
 
 -- two bytes stored keep every bit outside of them
 pub bit-put : (s : List ℕ) (i v b : ℕ) → Outside (8 * i) 16 b → bitAt (putWord s i v) b ≡ bitAt s b
-unfolding bitAt
 bit-put s i v b o =
-    ap (λ (x : ℕ). x / 2 ^ (7 - b % 8) % 2)
+    bitAt-in (putWord s i v) b
+    ∙ ap (λ (x : ℕ). x / 2 ^ (7 - b % 8) % 2)
     (put-other s i v (b / 8) (λ e. ⊎-elim (λ h. before i b h e) (λ h. after i b h (inl e)) o) (λ e. ⊎-elim (λ h. before-next i b h e) (λ h. after i b h (inr e)) o))
+    ∙ sym (bitAt-in s b)
   where
     before : (i b : ℕ) → b < 8 * i → b / 8 ≡ i → ⊥
     before i b h e = omega arith

@@ -7,7 +7,7 @@ use mathlib.Core.Bool.{Bool, true, false, cond}
 use lib.ListN.{length}
 use lib.Dec.{ltb}
 use borrow.Author.Tests.{le-ltb, lt-ltb}
-use Rattle.refusal.specs.Refusals.{Grounds, grounds, Outcome, taken, refused, andThen, Ran, settle, follow}
+use Rattle.refusal.specs.Refusals.{Grounds, grounds, Outcome, taken, refused, andThen, Ran, settle, follow, thenRun}
 use Rattle.refusal.proofs.Laws.{never, settle-stays, settle-moves, run-stops}
 use Rattle.bits.specs.Bits.{bitsAt}
 use Rattle.bits.specs.Answers.{gotOf}
@@ -86,6 +86,10 @@ module _ (len : ℕ) (st : Standing) (name : ℕ) (role : Role) (start : ℕ) wh
 
 -- the sticky reader: one that was taken reads on, one that is refused stays
 module _ (frame : List ℕ) (a : Ask) where
+  pub next-is : (r : Ran Standing ℕ) → nextOf frame a r ≡ thenRun r (λ _ st. readOf frame st a)
+  unfolding nextOf
+  next-is r = refl
+
   pub next-on : (r : Ran Standing ℕ) {v : ℕ} → r .outcome ≡ taken v → nextOf frame a r ≡ readOf frame (r .state) a
   unfolding nextOf
   next-on r e = ap (λ o. follow o (r .state) (λ _ st. readOf frame st a)) e

@@ -9,8 +9,8 @@ use mathlib.Core.Logic.{_⊎_, inl, ⊎-elim}
 use native.Mathlib.Omega.{arith}
 use lib.ListN.{length, getD}
 use lib.Dec.{ltb}
-use borrow.Author.Tests.{ltb-false, le-ltb}
-use Rattle.refusal.specs.Refusals.{Grounds, Outcome, taken, refused, andThen, Ran, settle}
+use borrow.Author.Tests.{ltb-false, lt-ltb, le-ltb}
+use Rattle.refusal.specs.Refusals.{Grounds, grounds, Outcome, taken, refused, andThen, Ran, settle}
 use Rattle.refusal.proofs.Laws.{never, settle-stays, settle-moves, taken-same, past-test, past-then}
 use Rattle.bits.specs.Bits.{bitsAt}
 use Rattle.bits.proofs.Laws.{bitsAt-lt}
@@ -195,6 +195,12 @@ module _ (frame : List ℕ) (p : Place) (width : ℕ) where
   unfolding rawOf
   raw-inside s h n w = simp (limit-sound (length frame) p s h, le-ltb 32 width n, le-ltb (p .limit) (p .pos + width) w)
 
+  -- one that passes the limit is refused
+  pub raw-past : p .limit ≤ 32768 → p .limit ≤ 8 * length frame → width ≤ 32 → p .limit < p .pos + width
+      → rawOf frame p width ≡ record { outcome = refused (grounds 1 (p .pos)); state = p }
+  unfolding rawOf
+  raw-past s h n w = simp (limit-sound (length frame) p s h, le-ltb 32 width n, lt-ltb (p .limit) (p .pos + width) w)
+
 -- a span, from the cursor on
 module _ (len : ℕ) (st : Standing) (name : ℕ) (role : Role) (width : ℕ) where
   abbrev span-after : Standing
@@ -265,6 +271,11 @@ module _ (len : ℕ) (st : Standing) (name : ℕ) (role : Role) (start : ℕ) wh
       either-way (closeOf len st name role start) P
       (λ g e. subst P (sym (close-refused g e .0)) s)
       (λ u e. let r = close-taken e in subst P (sym (r .1)) (t (r .0)))
+
+  -- the length of the bytes counts for the cursor's soundness alone
+  pub close-alike : (len′ : ℕ) → unsound len′ (st .place) ≡ unsound len (st .place) → closeOf len′ st name role start ≡ closeOf len st name role start
+  unfolding closeOf closes
+  close-alike len′ e = rw e
 
   pub close-keeps : Keeps st (closeOf len st name role start .state)
   close-keeps =

@@ -11,7 +11,7 @@ use lib.ListN.{length}
 use lib.Bits.{bitOr, bitXor}
 use lib.Dec.{eqb, ltb}
 use borrow.Author.Tests.{eqb-true, eq-eqb, ltb-false, le-ltb, not-false}
-use Rattle.refusal.specs.Refusals.{taken}
+use Rattle.refusal.specs.Refusals.{taken, refuseIf}
 use Rattle.refusal.proofs.Laws.{past-test}
 use Rattle.refusal.proofs.TestLaws.{and-left, and-right}
 use Rattle.syntax.specs.declared.Element.{Element}
@@ -75,10 +75,14 @@ pub reaches-tiles : (log : List ℕ) (n total : ℕ) → Reaches log n total →
 unfolding tiles
 reaches-tiles log n total r = rw (each-follows log n (r .starts), eq-eqb (endAt log n) total (r .ends))
 
--- a log that reaches the total is accepted
-pub reaches-accepted : (log : List ℕ) (n total : ℕ) → n ≤ room (length log) → Reaches log n total → tilingOf log n total ≡ taken tt
+-- of a log that reaches the total the count alone is tested
+pub reaches-tiling : (log : List ℕ) (n total : ℕ) → Reaches log n total → tilingOf log n total ≡ refuseIf (ltb (room (length log)) n) 6 0 (taken tt)
 unfolding tilingOf
-reaches-accepted log n total h r = simp (le-ltb (room (length log)) n h, reaches-tiles log n total r)
+reaches-tiling log n total r = simp (reaches-tiles log n total r)
+
+-- so it is accepted
+pub reaches-accepted : (log : List ℕ) (n total : ℕ) → n ≤ room (length log) → Reaches log n total → tilingOf log n total ≡ taken tt
+reaches-accepted log n total h r = reaches-tiling log n total r ∙ simp (le-ltb (room (length log)) n h)
 
 -- and an accepted one reaches it
 pub accepted-reaches : (log : List ℕ) (n total : ℕ) → tilingOf log n total ≡ taken tt → (n ≤ room (length log)) × Reaches log n total

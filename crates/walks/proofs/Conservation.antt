@@ -12,9 +12,9 @@ use lib.ListN.{length}
 use Rattle.refusal.specs.Refusals.{Outcome, taken, refused, Ran, follow, thenRun}
 use Rattle.syntax.specs.declared.Role.{Role}
 use Rattle.syntax.specs.declared.Place.{Place}
-use Rattle.syntax.specs.Reads.{Standing, standing, room, unsound, ahead, elementOf, logged, spanAsk, closes, closeOf}
+use Rattle.syntax.specs.Reads.{Standing, standing, room, unsound, ahead, elementOf, logged, spanAsk}
 use Rattle.syntax.proofs.Tests.{sound-limit, room-words}
-use Rattle.syntax.proofs.ReadLaws.{logged-length, close-inside, close-keeps}
+use Rattle.syntax.proofs.ReadLaws.{logged-length, close-inside, close-alike, close-keeps}
 use Rattle.walks.specs.declared.Groups.{Groups}
 use Rattle.walks.specs.Walk.{State, state, going, unfitRange, unfitWalk, walkCodes, walkOf, Reachable}
 use Rattle.walks.specs.Row.{sumOf, bitsT, Walk, codesOf, Item, walk, close, Along, along, noGroups, itemOf, rowFrom, endOf, AllPass, Passes, walksOf, metOf, codesIn, closings, Codes, Fit, Sound, Conserved}
@@ -157,9 +157,9 @@ module _ (frame frame′ : List ℕ) where
   Alike a = unsound (length frame′) (a .standing .place) ≡ unsound (length frame) (a .standing .place)
 
   item-alike : (k : Item) (a : Along) → Alike a → itemOf frame′ k a ≡ itemOf frame k a
-  unfolding itemOf walkOf closeOf closes
+  unfolding itemOf walkOf
   item-alike (walk w) a e = rw e
-  item-alike (close name role opened) a e = rw e
+  item-alike (close name role opened) a e = rw (close-alike (length frame) (a .standing) name role opened (length frame′) e)
 
   row-alike : (ks : List Item) (r : Ran Along Unit) → Alike (r .state) → rowFrom frame′ ks r ≡ rowFrom frame ks r
   unfolding rowFrom
