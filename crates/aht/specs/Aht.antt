@@ -81,9 +81,8 @@ gaqWidth h = getD gaqWidths (h - 8) 0
 -- a small mantissa of s bits; "A tag is a small mantissa of top bit 1, rest 0": after it stands a large one of l bits
 unfoldable pub gainedOn : List ℕ → ℕ → ℕ → Walk → Walk
 gainedOn frame s l r =
-    cond (reads (λ v. eqb v (2 ^ (s - 1))) (readOn frame s r))
-    (tagOn (readOn frame l (readOn frame s r)))
-    (readOn frame s r)
+    let q = readOn frame s r in
+    cond (reads (λ v. eqb v (2 ^ (s - 1))) q) (tagOn (readOn frame l q)) q
 
 -- a mantissa of width m: "m; G2: m-1, tag adds m-1; G4: m-2, tag adds m"
 unfoldable pub mantissaOn : List ℕ → ℕ → ℕ → Walk → Walk
@@ -140,7 +139,9 @@ sections mode n = cond (eqb mode 0) 0 (cond (eqb mode 3) ((n + 2) / 3) n)
 
 -- a composite gain of 5 bits: 14 above 26
 unfoldable pub compositeOn : List ℕ → Walk → Walk
-compositeOn frame r = cond (reads (λ v. ltb 26 v) (readOn frame 5 r)) (refuseOn 14 (readOn frame 5 r)) (readOn frame 5 r)
+compositeOn frame r =
+    let q = readOn frame 5 r in
+    cond (reads (λ v. ltb 26 v) q) (refuseOn 14 q) q
 
 -- a gain word
 unfoldable pub wordOn : List ℕ → ℕ → Walk → Walk
