@@ -22,7 +22,7 @@ use Rattle.syntax.proofs.Reached.{read-reached, span-reached}
 use Rattle.syntax.proofs.Tiled.{reaches-accepted}
 use Rattle.probe.specs.declared.Codec.{Codec}
 use Rattle.frame.specs.declared.Stretch.{Stretch}
-use Rattle.frame.specs.Tail.{hasAux, behind, outside, auxbits, userBits, tailAsk, reservedName, lengthOf, lastOf, tilesOf, elementsOf}
+use Rattle.frame.specs.Tail.{lastBits, auxdatalBits, hasAux, behind, outside, auxbits, userBits, tailAsk, reservedName, lengthOf, lastOf, tilesOf, elementsOf}
 use Rattle.frame.specs.Tiled.{auxdatal, Accepted}
 use Rattle.frame.proofs.Fits.{fit-passed}
 use Rattle.frame.proofs.Runs.{tail-on}
@@ -102,7 +102,7 @@ module _ (frame : List ℕ) (limit words : ℕ) (short : limit ≤ 32768) (held 
       subst (λ (q : Ran Standing B). Takes b y m q) (sym (goes r next (t .takes))) (f (r .state) (t .stands))
 
   length-takes : (aux : Bool) (width x n : ℕ) (st : Standing) → Stands x n st → x + behind aux ≤ limit → n < room words
-      → cond aux (bitsAt frame x 14) 0 ≤ width → Takes (cond aux (bitsAt frame x 14) 0) (x + behind aux - 18) (n + 1) (lengthOf frame aux width st)
+      → cond aux (bitsAt frame x auxdatalBits) 0 ≤ width → Takes (cond aux (bitsAt frame x auxdatalBits) 0) (x + behind aux - lastBits) (n + 1) (lengthOf frame aux width st)
   unfolding behind
   length-takes false width x n st s h l w =
       record {
@@ -110,12 +110,12 @@ module _ (frame : List ℕ) (limit words : ℕ) (short : limit ≤ 32768) (held 
         stands = record { reached = s .reached; here = omega (arith, s .here); few = omega (arith, s .few); same-limit = s .same-limit; same-words = s .same-words };
       }
   length-takes true width x n st s h l w =
-      let e : x + 14 ≡ x + 32 - 18 = omega arith in
-      subst (λ (y : ℕ). Takes (bitsAt frame x 14) y (n + 1) (lengthOf frame true width st)) e
-      (then-takes (readOf frame st (tailAsk names.auxdatal AuxDataL 14)) _ (read-takes x n (tailAsk names.auxdatal AuxDataL 14) st s (omega arith) (omega arith) l)
-      (λ t k. record { takes = rw (le-ltb width (bitsAt frame x 14) w); stands = k }))
+      let e : x + auxdatalBits ≡ x + (auxdatalBits + lastBits) - lastBits = omega arith in
+      subst (λ (y : ℕ). Takes (bitsAt frame x auxdatalBits) y (n + 1) (lengthOf frame true width st)) e
+      (then-takes (readOf frame st (tailAsk names.auxdatal AuxDataL auxdatalBits)) _ (read-takes x n (tailAsk names.auxdatal AuxDataL auxdatalBits) st s (omega arith) (omega arith) l)
+      (λ t k. record { takes = rw (le-ltb width (bitsAt frame x auxdatalBits) w); stands = k }))
 
-  last-takes : (codec : Codec) (x n : ℕ) (st : Standing) → Stands x n st → x + 18 ≤ limit → n + 3 ≤ room words
+  last-takes : (codec : Codec) (x n : ℕ) (st : Standing) → Stands x n st → x + lastBits ≤ limit → n + 3 ≤ room words
       → Takes (bitsAt frame (x + 1 + 1) 16) (x + 1 + 1 + 16) (n + 1 + 1 + 1) (lastOf frame codec st)
   unfolding lastOf
   last-takes codec x n st s h l =
@@ -136,9 +136,9 @@ module _ (frame : List ℕ) (limit words : ℕ) (short : limit ≤ 32768) (held 
 
   -- auxdatal stands behind auxbits
   length-at : (aux : Bool) (x total : ℕ) → x + behind aux ≤ total
-      → cond aux (bitsAt frame (x + (total - behind aux - x)) 14) 0 ≡ cond aux (bitsAt frame (total - 32) 14) 0
+      → cond aux (bitsAt frame (x + (total - behind aux - x)) auxdatalBits) 0 ≡ cond aux (bitsAt frame (total - behind true) auxdatalBits) 0
   unfolding behind
-  length-at true x total h = let e : x + (total - 32 - x) ≡ total - 32 = omega arith in ap (λ (y : ℕ). bitsAt frame y 14) e
+  length-at true x total h = let e : x + (total - behind true - x) ≡ total - behind true = omega arith in ap (λ (y : ℕ). bitsAt frame y auxdatalBits) e
   length-at false x total h = refl
 
   elements-take : (total : ℕ) (codec : Codec) (st : Standing) → Stands (st .place .pos) (st .place .count) st → total ≤ limit
@@ -151,15 +151,15 @@ module _ (frame : List ℕ) (limit words : ℕ) (short : limit ≤ 32768) (held 
       let x = st .place .pos in
       let n = st .place .count in
       let width = total - behind aux - x in
-      let v : cond aux (bitsAt frame (x + width) 14) 0 ≡ auxdatal frame total = length-at aux x total f in
+      let v : cond aux (bitsAt frame (x + width) auxdatalBits) 0 ≡ auxdatal frame total = length-at aux x total f in
       let b = behind-least aux in
-      let e : x + width + behind aux - 18 + 1 + 1 + 16 ≡ total = omega (arith, f, b) in
+      let e : x + width + behind aux - lastBits + 1 + 1 + 16 ≡ total = omega (arith, f, b) in
       then-takes (spanOf (length frame) st names.auxbits AuxBits width) _ (span-takes x n names.auxbits AuxBits width st s (omega (arith, h, f)) (omega (arith, l))) (λ t k.
       then-takes (lengthOf frame aux width t) _
-      (subst (λ (y : ℕ). Takes y (x + width + behind aux - 18) (n + 1 + 1) (lengthOf frame aux width t)) v
+      (subst (λ (y : ℕ). Takes y (x + width + behind aux - lastBits) (n + 1 + 1) (lengthOf frame aux width t)) v
       (length-takes aux width (x + width) (n + 1) t k (omega (arith, h, f)) (omega (arith, l)) (subst (λ (y : ℕ). y ≤ width) (sym v) w))) (λ u m.
       then-takes (lastOf frame codec u) _
-      (last-takes codec (x + width + behind aux - 18) (n + 1 + 1) u m (omega (arith, h, e)) (omega (arith, l))) (λ q r.
+      (last-takes codec (x + width + behind aux - lastBits) (n + 1 + 1) u m (omega (arith, h, e)) (omega (arith, l))) (λ q r.
       tiles-takes total _ (n + 1 + 1 + 1 + 1 + 1) q (subst (λ (y : ℕ). Stands y (n + 1 + 1 + 1 + 1 + 1) q) e r) (omega (arith, l))))) .takes
 
 pub accepted : Accepted

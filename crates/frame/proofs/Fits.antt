@@ -13,7 +13,7 @@ use Rattle.syntax.specs.declared.Place.{Place}
 use Rattle.syntax.specs.Reads.{room, unsound}
 use Rattle.refusal.proofs.TestLaws.{or-false}
 use Rattle.syntax.proofs.Tests.{sound-limit}
-use Rattle.frame.specs.Tail.{unfit, hasAux, behind, fitOf}
+use Rattle.frame.specs.Tail.{unfit, lastBits, hasAux, behind, fitOf}
 
 -- a total, a place and a count that are fit
 pub record Fit (len words : ℕ) (p : Place) (total : ℕ) : Type 0 where
@@ -36,11 +36,11 @@ module _ (frame : List ℕ) (words : ℕ) (p : Place) (total : ℕ) {o : Outcome
   fit-6 u g = rw u g
 
   module _ (u : unfit (length frame) words p total ≡ false) where
-    pub fit-16 : ltb total (p .pos + 18) ≡ true → o ≡ refused (grounds 16 (p .pos)) → o ≡ fitOf frame words p total
+    pub fit-16 : ltb total (p .pos + lastBits) ≡ true → o ≡ refused (grounds 16 (p .pos)) → o ≡ fitOf frame words p total
     unfolding fitOf
     fit-16 s g = rw (u, s) g
 
-    module _ (s : ltb total (p .pos + 18) ≡ false) {n : ℕ} (b : n ≡ behind (hasAux frame total)) where
+    module _ (s : ltb total (p .pos + lastBits) ≡ false) {n : ℕ} (b : n ≡ behind (hasAux frame total)) where
       pub fit-17 : ltb total (p .pos + n) ≡ true → o ≡ refused (grounds 17 (p .pos)) → o ≡ fitOf frame words p total
       unfolding fitOf
       fit-17 t g = rw (u, s, ← b, t) g
@@ -52,17 +52,17 @@ module _ (frame : List ℕ) (words : ℕ) (p : Place) (total : ℕ) {o : Outcome
 -- what is known of a tail that there is room for
 pub record Roomed (frame : List ℕ) (words : ℕ) (p : Place) (total : ℕ) : Type 0 where
   pub fit : Fit (length frame) words p total
-  pub last : p .pos + 18 ≤ total
+  pub last : p .pos + lastBits ≤ total
   pub all : p .pos + behind (hasAux frame total) ≤ total
 
 pub fit-passed : (frame : List ℕ) (words : ℕ) (p : Place) (total : ℕ) → fitOf frame words p total ≡ taken tt → Roomed frame words p total
 unfolding fitOf
 fit-passed frame words p total e =
     let a = past-test (unfit (length frame) words p total) _ _ e in
-    let b = past-test (ltb total (p .pos + 18)) _ _ (a .1) in
+    let b = past-test (ltb total (p .pos + lastBits)) _ _ (a .1) in
     let c = past-test (ltb total (p .pos + behind (hasAux frame total))) _ _ (b .1) in
     record {
       fit = fit-says (length frame) words p total (a .0);
-      last = ltb-false total (p .pos + 18) (b .0);
+      last = ltb-false total (p .pos + lastBits) (b .0);
       all = ltb-false total (p .pos + behind (hasAux frame total)) (c .0);
     }

@@ -24,7 +24,7 @@ use Rattle.syntax.specs.Tiling.{tilingOf}
 use Rattle.syntax.proofs.Ends.{next-is, reader-is}
 use Rattle.probe.specs.declared.Codec.{Codec}
 use Rattle.frame.specs.declared.Stretch.{Stretch}
-use Rattle.frame.specs.Tail.{hasAux, behind, fitOf, outside, userBits, tailAsk, reservedName, lengthOf, lastOf, tilesOf, elementsOf, tailOf}
+use Rattle.frame.specs.Tail.{auxdatalBits, hasAux, behind, fitOf, outside, userBits, tailAsk, reservedName, lengthOf, lastOf, tilesOf, elementsOf, tailOf}
 
 -- a reader whose answer is refused
 seen-refused : (a : Put) (v : ℕ) {g : Grounds} → doneOf a ≡ refused g → seenOf a v ≡ refused g
@@ -57,7 +57,7 @@ shows-none (put.Refused r) v z = z
 
 -- auxdatal, with the reader after it
 module _ (frame : List ℕ) (width : ℕ) (q : Ran Standing ℕ) (read : Reader) (log : List ℕ)
-    (n : readerOf read log ≡ nextOf frame (tailAsk names.auxdatal AuxDataL 14) q) (s : read .value ≡ shown (seenOf (read .answer) (read .value))) where
+    (n : readerOf read log ≡ nextOf frame (tailAsk names.auxdatal AuxDataL auxdatalBits) q) (s : read .value ≡ shown (seenOf (read .answer) (read .value))) where
   abbrev here : Standing
   here = standing (read .place) log
 
@@ -66,8 +66,8 @@ module _ (frame : List ℕ) (width : ℕ) (q : Ran Standing ℕ) (read : Reader)
 
   length-is : thenRun (readerOf read log) measured ≡ thenRun q (λ _ st. lengthOf frame true width st)
   length-is =
-      ap (λ (x : Ran Standing ℕ). thenRun x measured) (n ∙ next-is frame (tailAsk names.auxdatal AuxDataL 14) q)
-      ∙ then-then q (λ _ st. readOf frame st (tailAsk names.auxdatal AuxDataL 14)) measured
+      ap (λ (x : Ran Standing ℕ). thenRun x measured) (n ∙ next-is frame (tailAsk names.auxdatal AuxDataL auxdatalBits) q)
+      ∙ then-then q (λ _ st. readOf frame st (tailAsk names.auxdatal AuxDataL auxdatalBits)) measured
 
   -- it exceeds auxbits: it has been read, so its reader was not refused
   pub length-exceeds : width < read .value → (x : Reader) → x .place ≡ read .place → doneOf (x .answer) ≡ refused (grounds 17 (read .place .pos))

@@ -24,7 +24,7 @@ use Rattle.syntax.proofs.Reached.{read-reached, span-reached}
 use Rattle.syntax.proofs.Tiled.{accepted-sum, accepted-one, reaches-tiling}
 use Rattle.probe.specs.declared.Codec.{Codec}
 use Rattle.frame.specs.declared.Stretch.{Stretch}
-use Rattle.frame.specs.Tail.{unfit, hasAux, behind, fitOf, outside, tailAsk, reservedName, lengthOf, lastOf, tilesOf, elementsOf, tailOf}
+use Rattle.frame.specs.Tail.{unfit, lastBits, auxdatalBits, hasAux, behind, fitOf, outside, tailAsk, reservedName, lengthOf, lastOf, tilesOf, elementsOf, tailOf}
 use Rattle.frame.specs.Tiled.{TilesAll, Tiled, NeverUntiled}
 use Rattle.frame.proofs.Fits.{fit-passed}
 
@@ -112,17 +112,17 @@ span-leads len name role width x st h =
           };
     }
 
-length-leads : (frame : List ℕ) (aux : Bool) (width x : ℕ) (st : Standing) → At x st → Leads (x + behind aux - 18) (lengthOf frame aux width st)
+length-leads : (frame : List ℕ) (aux : Bool) (width x : ℕ) (st : Standing) → At x st → Leads (x + behind aux - lastBits) (lengthOf frame aux width st)
 unfolding behind
 length-leads frame false width x st h =
     record { fine = λ g e. never (sym e); comes = λ a e. record { reached = h .reached; here = omega (arith, h .here) } }
 length-leads frame true width x st h =
-    let e : x + 14 ≡ x + 32 - 18 = omega arith in
+    let e : x + auxdatalBits ≡ x + (auxdatalBits + lastBits) - lastBits = omega arith in
     subst (λ (n : ℕ). Leads n (lengthOf frame true width st)) e
-    (then-leads (x + 14) (x + 14) (readOf frame st (tailAsk names.auxdatal AuxDataL 14)) _ (read-leads frame x (tailAsk names.auxdatal AuxDataL 14) st h)
+    (then-leads (x + auxdatalBits) (x + auxdatalBits) (readOf frame st (tailAsk names.auxdatal AuxDataL auxdatalBits)) _ (read-leads frame x (tailAsk names.auxdatal AuxDataL auxdatalBits) st h)
     (λ l s k. go (ltb width l) l s k))
   where
-    go : (test : Bool) (l : ℕ) (s : Standing) → At (x + 14) s → Leads (x + 14) (ends s (cond test (refused (grounds 17 (s .place .pos))) (taken l)))
+    go : (test : Bool) (l : ℕ) (s : Standing) → At (x + auxdatalBits) s → Leads (x + auxdatalBits) (ends s (cond test (refused (grounds 17 (s .place .pos))) (taken l)))
     go true l s k = record { fine = λ g e n. (let z : 17 ≡ g .number = cc in omega arith); comes = λ a e. never e }
     go false l s k = record { fine = λ g e. never (sym e); comes = λ a e. k }
 
@@ -145,7 +145,7 @@ tiles-fine total user st h =
     go true = record { fine = λ g e n. (let z : 6 ≡ g .number = cc in omega arith); comes = λ a e. never e }
     go false = record { fine = λ g e. never (sym e); comes = λ a e. h }
 
-pub behind-least : (aux : Bool) → 18 ≤ behind aux
+pub behind-least : (aux : Bool) → lastBits ≤ behind aux
 unfolding behind
 behind-least true = omega arith
 behind-least false = omega arith
@@ -157,12 +157,12 @@ elements-fine frame total codec st h f =
     let aux = hasAux frame total in
     let pos = st .place .pos in
     let width = total - behind aux - pos in
-    let e : pos + width + behind aux - 18 + 1 + 1 + 16 ≡ total = omega (arith, f, behind-least aux) in
+    let e : pos + width + behind aux - lastBits + 1 + 1 + 16 ≡ total = omega (arith, f, behind-least aux) in
     then-leads (pos + width) total (spanOf (length frame) st names.auxbits AuxBits width) _
     (span-leads (length frame) names.auxbits AuxBits width pos st (record { reached = h; here = refl })) (λ _ s k.
-    then-leads (pos + width + behind aux - 18) total (lengthOf frame aux width s) _ (length-leads frame aux width (pos + width) s k) (λ l t m.
+    then-leads (pos + width + behind aux - lastBits) total (lengthOf frame aux width s) _ (length-leads frame aux width (pos + width) s k) (λ l t m.
     then-leads total total (lastOf frame codec t) _
-    (subst (λ (n : ℕ). Leads n (lastOf frame codec t)) e (last-leads frame codec (pos + width + behind aux - 18) t m)) (λ _ u q.
+    (subst (λ (n : ℕ). Leads n (lastOf frame codec t)) e (last-leads frame codec (pos + width + behind aux - lastBits) t m)) (λ _ u q.
     tiles-fine total _ u q)))
 
 -- the tests in front
@@ -173,7 +173,7 @@ fit-fine frame st total g e =
     let ks : List ℕ = 6 ∷ 16 ∷ 17 ∷ [] in
     not-18 ks tt (p .pos) g
     (told-first ks (unfit (length frame) (length (st .log)) p total) _ _ e (inl refl) (λ q.
-    told-first ks (ltb total (p .pos + 18)) _ _ q (inr (inl refl)) (λ r.
+    told-first ks (ltb total (p .pos + lastBits)) _ _ q (inr (inl refl)) (λ r.
     told-first ks (ltb total (p .pos + behind (hasAux frame total))) _ _ r (inr (inr refl)) (λ s. never (sym s)))))
 
 tail-fine : (frame : List ℕ) (st : Standing) (total : ℕ) (codec : Codec) → Reached st

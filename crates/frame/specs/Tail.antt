@@ -35,19 +35,27 @@ tailedOf r log = record { outcome = userBitsOf (r .answer); state = standing (r 
 abbrev pub unfit : ℕ → ℕ → Place → ℕ → Bool
 unfit len words p total = ltb (p .limit) total || (unsound len p || ltb (room words) (p .count))
 
--- "The last 18 bits are auxdatae, one reserved bit, crc2": whether auxdatae is 1
-unfoldable pub hasAux : List ℕ → ℕ → Bool
-hasAux frame total = eqb (bitsAt frame (total - 18) 1) 1
+-- "The last 18 bits are auxdatae, one reserved bit, crc2"
+abbrev pub lastBits : ℕ
+lastBits = 18
 
--- "If auxdatae is 1, 14 bits of auxdatal stand before it": how many bits stand behind auxbits
+-- "If auxdatae is 1, 14 bits of auxdatal stand before it"
+abbrev pub auxdatalBits : ℕ
+auxdatalBits = 14
+
+-- whether auxdatae is 1
+unfoldable pub hasAux : List ℕ → ℕ → Bool
+hasAux frame total = eqb (bitsAt frame (total - lastBits) 1) 1
+
+-- how many bits stand behind auxbits
 unfoldable pub behind : Bool → ℕ
-behind aux = cond aux (14 + 18) 18
+behind aux = cond aux (auxdatalBits + lastBits) lastBits
 
 -- "total .. gives 6 above the limit, then 16", "total below position + 18"; then 17 where auxdatal would begin before the cursor
 unfoldable pub fitOf : List ℕ → ℕ → Place → ℕ → Outcome Unit
 fitOf frame words p total =
     refuseIf (unfit (length frame) words p total) 6 (p .pos)
-    (refuseIf (ltb total (p .pos + 18)) 16 (p .pos)
+    (refuseIf (ltb total (p .pos + lastBits)) 16 (p .pos)
     (refuseIf (ltb total (p .pos + behind (hasAux frame total))) 17 (p .pos)
     (taken tt)))
 
@@ -76,7 +84,7 @@ reservedName Eac3 = names.encinfo
 abbrev pub lengthOf : List ℕ → Bool → ℕ → Standing → Ran Standing ℕ
 lengthOf frame false width st = ends st (taken 0)
 lengthOf frame true width st =
-    thenRun (readOf frame st (tailAsk names.auxdatal AuxDataL 14)) (λ l st₁.
+    thenRun (readOf frame st (tailAsk names.auxdatal AuxDataL auxdatalBits)) (λ l st₁.
     ends st₁ (refuseIf (ltb width l) 17 (st₁ .place .pos) (taken l)))
 
 -- "auxdatae, the reserved bit, crc2"

@@ -3,7 +3,7 @@
 -- Assumes nothing.
 use Prim.Native.Nat.{ℕ, _+_, _-_, _≤_, _<_}
 use mathlib.Core.List.{List}
-use mathlib.Core.Bool.{cond}
+use mathlib.Core.Bool.{true, cond}
 use mathlib.Core.Logic.{_≢_}
 use mathlib.Core.Path.{_≡_}
 use lib.ListN.{length}
@@ -13,7 +13,7 @@ use Rattle.syntax.specs.Reads.{Standing, room}
 use Rattle.syntax.specs.Tiling.{widths, Reached, InOne}
 use Rattle.probe.specs.declared.Codec.{Codec}
 use Rattle.frame.specs.declared.Stretch.{Stretch}
-use Rattle.frame.specs.Tail.{hasAux, fitOf, auxbits, userBits, tailOf}
+use Rattle.frame.specs.Tail.{auxdatalBits, hasAux, behind, fitOf, auxbits, userBits, tailOf}
 
 -- the first n elements of a log tile total bits: their widths sum to it, and each bit below it lies in exactly one of them
 pub record TilesAll (log : List ℕ) (n total : ℕ) : Type 0 where
@@ -33,7 +33,7 @@ pub record NeverUntiled : Type 0 where
 
 -- auxdatal: 0 where auxdatae is 0
 abbrev pub auxdatal : List ℕ → ℕ → ℕ
-auxdatal frame total = cond (hasAux frame total) (bitsAt frame (total - 32) 14) 0
+auxdatal frame total = cond (hasAux frame total) (bitsAt frame (total - behind true) auxdatalBits) 0
 
 -- where the log tiles the bits before the tail, there is room for it in the frame and in the log, and auxdatal is within auxbits, the tail
 -- is accepted

@@ -27,7 +27,7 @@ ghost use Rattle.bits.specs.Bits.{bitsAt};
 ghost use Rattle.bits.specs.Answers.{doneOf};
 ghost use Rattle.syntax.specs.Reads.{standing, room, readerOf, seenOf, shown};
 ghost use Rattle.syntax.specs.Cursors.{heldOf, over};
-ghost use Rattle.frame.specs.Tail.{userBitsOf, tailedOf, unfit, hasAux, behind, fitOf, outside, userBits, tailAsk, reservedName, lengthOf, lastOf, tilesOf, elementsOf, tailOf};
+ghost use Rattle.frame.specs.Tail.{userBitsOf, tailedOf, unfit, lastBits, hasAux, behind, fitOf, outside, userBits, tailAsk, reservedName, lengthOf, lastOf, tilesOf, elementsOf, tailOf};
 
 // The last bits of a frame: auxdatae, one reserved bit, and the 16 of crc2.
 const LAST: usize = 18;
@@ -98,7 +98,7 @@ fn bit_at(frame: &[u8], pos: usize) -> u32
 
 // Whether auxdatae is 1.
 fn has_aux(frame: &[u8], total: usize) -> bool
-    requires { ⌜ (18 ≤ total) × (total ≤ 8 * length (now frame)) ⌝ }
+    requires { ⌜ (lastBits ≤ total) × (total ≤ 8 * length (now frame)) ⌝ }
     ensures { λ r. ⌜ r ≡ hasAux (now (frame .entry)) total ⌝ }
 {
     bit_at(frame, total - LAST) == 1
@@ -268,7 +268,7 @@ fn finished(log: &[u32], reader: Reader, total: usize, user: Stretch) -> Tailed
 
 // The elements of a tail that there is room for.
 fn elements(frame: &[u8], log: &mut [u32], place: Place, total: usize, codec: Codec) -> Tailed
-    requires { ⌜ (18 ≤ total) × (total ≤ 8 * length (now frame)) × (place .pos + behind (hasAux (now frame) total) ≤ total) ⌝ }
+    requires { ⌜ (lastBits ≤ total) × (total ≤ 8 * length (now frame)) × (place .pos + behind (hasAux (now frame) total) ≤ total) ⌝ }
     ensures { λ r. ⌜ tailedOf r (now (log .exit)) ≡ elementsOf (now (frame .entry)) total codec (standing place (now (log .entry))) ⌝ }
 {
     let has = has_aux(frame, total);

@@ -6,7 +6,7 @@ use lib.ListN.{length}
 use denote.Ref.{now}
 use native.Mathlib.Omega.{arith}
 use borrow.Author.Tests.{ltb-false}
-use Rattle.frame.specs.Tail.{behind}
+use Rattle.frame.specs.Tail.{lastBits, behind}
 use Rattle.frame.proofs.Fits.{fit-says, fit-6, fit-16, fit-17, fit-done}
 use borrow.Author.Needs.{needs}
 use Rattle.frame.proofs.fit.Statement.{statement}
@@ -27,7 +27,7 @@ has-aux-requires : tie.Need-has-aux-requires
 has-aux-requires c κs =
     let a = c .before .before .before .before .before .args in
     let f = fit-says (length (now (a .frame))) (a .words) (a .place) (a .total) (sym (c .before .before .before .is-unfit .ensures) ∙ c .before .before .if1 .left) in
-    let s = ltb-false (a .total) (a .place .pos + 18) (sym (c .before .is-short .ensures) ∙ c .if2 .left) in
+    let s = ltb-false (a .total) (a .place .pos + lastBits) (sym (c .before .is-short .ensures) ∙ c .if2 .left) in
     (omega arith, omega (arith, f .within, f .sound))
 
 returns-3 : tie.Need-returns-3
