@@ -18,7 +18,7 @@ use Rattle.syntax.proofs.ReadLaws.{logged-length, close-inside, close-alike, cl
 use Rattle.walks.specs.declared.Groups.{Groups}
 use Rattle.walks.specs.Walk.{State, state, going, unfitRange, unfitWalk, walkCodes, walkOf, Reachable}
 use Rattle.walks.specs.Row.{sumOf, bitsT, Walk, codesOf, Item, walk, close, Along, along, noGroups, itemOf, rowFrom, endOf, AllPass, Passes, walksOf, metOf, codesIn, closings, Codes, Fit, Sound, Conserved}
-use Rattle.walks.proofs.Laws.{groups-pass, walk-fit}
+use Rattle.walks.proofs.Laws.{walk-fit}
 use Rattle.walks.proofs.Counting.{costs, after, after-append, after-reachable, T-append, T-order}
 use Rattle.walks.proofs.Passing.{walk-passes, walk-within, walkOf-limit}
 
@@ -36,7 +36,7 @@ record Stands (frame : List ℕ) (s l : ℕ) (bs : List ℕ) (ks : List Item) (s
   log-room : st .place .count + closings ks ≤ room (length (st .log))
 
 none-reachable : Reachable noGroups
-none-reachable = record { ones = omega arith; twos = omega arith; fours = omega arith }
+none-reachable = refl
 
 module _ (frame : List ℕ) (s l : ℕ) (bs : List ℕ) (ks : List Item) (st : Standing) where
   -- a walk
@@ -54,7 +54,7 @@ module _ (frame : List ℕ) (s l : ℕ) (bs : List ℕ) (ks : List Item) (st : S
     walk-is : walkOf frame p (w .bap) (w .start) (w .end) g ≡ walkCodes (codesOf w) (going (state p g))
     walk-is =
         let e : unfitWalk (length frame) p (w .start) (w .end) g ≡ false
-        = rw (h .cursor, fit) (groups-pass g (after-reachable bs noGroups none-reachable)) in
+        = rw (h .cursor, fit) (after-reachable bs noGroups none-reachable) in
         sym (walk-fit frame p (w .bap) (w .start) (w .end) g e)
 
     abbrev after-walk : Standing

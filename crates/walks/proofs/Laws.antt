@@ -18,7 +18,7 @@ use Rattle.syntax.specs.declared.Place.{Place}
 use Rattle.syntax.specs.Reads.{unsound, ahead}
 use Rattle.refusal.proofs.TestLaws.{or-false}
 use Rattle.walks.specs.declared.Groups.{Groups}
-use Rattle.walks.specs.Walk.{State, state, going, stopped, cost, counted, passing, movingOf, mantissaOf, walkCodes, unfitRange, unreachable, unfitWalk, walkOf, Reachable}
+use Rattle.walks.specs.Walk.{State, state, going, stopped, cost, counted, passing, movingOf, mantissaOf, walkCodes, unfitRange, unfitWalk, walkOf, Reachable}
 
 -- the cases of a mantissa
 module _ (b : ℕ) (p : Place) (g : Groups) where
@@ -44,20 +44,33 @@ module _ (b : ℕ) (p : Place) (g : Groups) where
         go true = refl
         go false = refl
 
--- counting leaves groups that a walk can leave
+-- how many members groups that a walk can leave have at most
+pub groups-say : (g : Groups) → Reachable g → (g .g1 ≤ 2) × (g .g2 ≤ 2) × (g .g4 ≤ 1)
+groups-say g e =
+    let t = or-false (ltb 2 (g .g1)) _ e in
+    let u = or-false (ltb 2 (g .g2)) _ (t .1) in
+    (ltb-false 2 (g .g1) (t .0), ltb-false 2 (g .g2) (u .0), ltb-false 1 (g .g4) (u .1))
+
+groups-pass : (n₁ n₂ n₄ : ℕ) → n₁ ≤ 2 → n₂ ≤ 2 → n₄ ≤ 1 → Reachable (record { g1 = n₁; g2 = n₂; g4 = n₄ })
+groups-pass n₁ n₂ n₄ a b c = rw (le-ltb 2 n₁ a, le-ltb 2 n₂ b, le-ltb 1 n₄ c)
+
+-- counting leaves such groups
 pub counted-reachable : (b : ℕ) (g : Groups) → Reachable g → Reachable (counted g b)
 unfolding counted
 counted-reachable b g h = go (eqb b 1) (eqb b 2) (eqb b 4)
   where
+    s : (g .g1 ≤ 2) × (g .g2 ≤ 2) × (g .g4 ≤ 1)
+    s = groups-say g h
+
     go : (t₁ t₂ t₄ : Bool)
         → Reachable
         (cond t₁ (record { g1 = (g .g1 + 1) % 3; g2 = g .g2; g4 = g .g4 })
         (cond t₂ (record { g1 = g .g1; g2 = (g .g2 + 1) % 3; g4 = g .g4 })
         (cond t₄ (record { g1 = g .g1; g2 = g .g2; g4 = (g .g4 + 1) % 2 })
         g)))
-    go true t₂ t₄ = record { ones = omega arith; twos = h .twos; fours = h .fours }
-    go false true t₄ = record { ones = h .ones; twos = omega arith; fours = h .fours }
-    go false false true = record { ones = h .ones; twos = h .twos; fours = omega arith }
+    go true t₂ t₄ = groups-pass ((g .g1 + 1) % 3) (g .g2) (g .g4) (omega arith) (s .1) (s .2)
+    go false true t₄ = groups-pass (g .g1) ((g .g2 + 1) % 3) (g .g4) (s .0) (omega arith) (s .2)
+    go false false true = groups-pass (g .g1) (g .g2) ((g .g4 + 1) % 2) (s .0) (s .1) (omega arith)
     go false false false = h
 
 -- what holds of a state, of it with the mantissa counted, and then also moved over, holds after a mantissa
@@ -110,22 +123,13 @@ pub range-says : (start end : ℕ) → unfitRange start end ≡ false → (start
 range-says start end e =
     let t = or-false (ltb end start) _ e in (ltb-false end start (t .0), ltb-false 256 end (t .1))
 
-pub groups-say : (g : Groups) → unreachable g ≡ false → Reachable g
-groups-say g e =
-    let t = or-false (ltb 2 (g .g1)) _ e in
-    let u = or-false (ltb 2 (g .g2)) _ (t .1) in
-    record { ones = ltb-false 2 (g .g1) (t .0); twos = ltb-false 2 (g .g2) (u .0); fours = ltb-false 1 (g .g4) (u .1) }
-
-pub groups-pass : (g : Groups) → Reachable g → unreachable g ≡ false
-groups-pass g h = rw (le-ltb 2 (g .g1) (h .ones), le-ltb 2 (g .g2) (h .twos), le-ltb 1 (g .g4) (h .fours))
-
 module _ (frame : List ℕ) (p : Place) (bap : List ℕ) (start end : ℕ) (g : Groups) where
   pub walk-says : unfitWalk (length frame) p start end g ≡ false → (start ≤ end) × (end ≤ 256) × Reachable g
   walk-says e =
       let t = or-false (unsound (length frame) p) _ e in
       let u = or-false (unfitRange start end) _ (t .1) in
       let r = range-says start end (u .0) in
-      (r .0, r .1, groups-say g (u .1))
+      (r .0, r .1, u .1)
 
   -- the two ways of a walk
   pub walk-unfit : unfitWalk (length frame) p start end g ≡ true → stopped 6 (state p g) ≡ walkOf frame p bap start end g

@@ -1,8 +1,9 @@
 -- The conventional mantissa walk (TS 6.3.5; document 01, "Walks"): what a mantissa costs, what it does to the groups, and the walk over
 -- a range of bins, for all inputs, by document 01's numbers and its order.
 -- Assumes nothing.
-use Prim.Native.Nat.{ℕ, _+_, _%_, _≤_}
-use mathlib.Core.Bool.{Bool, cond, _||_}
+use Prim.Native.Nat.{ℕ, _+_, _%_}
+use mathlib.Core.Path.{_≡_}
+use mathlib.Core.Bool.{Bool, false, cond, _||_}
 use mathlib.Core.List.{List, [], _∷_}
 use lib.ListN.{length, getD}
 use lib.Seq.{slice}
@@ -90,6 +91,10 @@ unfitRange start end = ltb end start || ltb 256 end
 abbrev pub unreachable : Groups → Bool
 unreachable g = ltb 2 (g .g1) || (ltb 2 (g .g2) || ltb 1 (g .g4))
 
+-- the groups that a walk can leave
+abbrev pub Reachable : Groups → Type 0
+Reachable g = unreachable g ≡ false
+
 abbrev pub unfitWalk : ℕ → Place → ℕ → ℕ → Groups → Bool
 unfitWalk len place start end groups = unsound len place || (unfitRange start end || unreachable groups)
 
@@ -99,9 +104,3 @@ walkOf frame place bap start end groups =
     let s = state place groups in
     walkCodes (slice start end bap)
     (settle s s (refuseIf (unfitWalk (length frame) place start end groups) 6 (place .pos) (taken tt)))
-
--- the groups that a walk can leave
-pub record Reachable (g : Groups) : Type 0 where
-  pub ones : g .g1 ≤ 2
-  pub twos : g .g2 ≤ 2
-  pub fours : g .g4 ≤ 1

@@ -1,8 +1,10 @@
 -- `walks::counted_in` meets its contract: each arm of the match is a case of both definitions.
 -- Assumes nothing.
+use native.Mathlib.Omega.{arith}
 use borrow.Author.Tests.{ne-eqb}
 use borrow.Author.Needs.{needs}
 use Rattle.walks.specs.Walk.{cost, counted}
+use Rattle.walks.proofs.Laws.{groups-say}
 use Rattle.walks.proofs.counted_in.Statement.{statement}
 use Rattle.walks.proofs.counted_in.Tie as tie
 
@@ -31,11 +33,11 @@ counted-in-spec =
     tie.close
     (tie.spec
     (λ c κs. search needs)
-    (λ c. search needs)
+    (λ c. omega (arith, groups-say (c .before .before .before .args .g) (c .before .before .before .pre .1) .0))
     (λ c κs. search needs)
-    (λ c. search needs)
+    (λ c. omega (arith, groups-say (c .before .before .before .args .g) (c .before .before .before .pre .1) .1))
     (λ c κs. search needs)
-    (λ c. search needs)
+    (λ c. omega (arith, groups-say (c .before .before .before .args .g) (c .before .before .before .pre .1) .2))
     (λ c κs. search needs)
     returns
     returns-2
