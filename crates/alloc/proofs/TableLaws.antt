@@ -1,6 +1,6 @@
 -- An array that a loop fills is a table before and after each turn.
 -- Assumes nothing.
-use Prim.Native.Nat.{ℕ, _<_, _≤_, _+_, _-_, min, suc, zero}
+use Prim.Native.Nat.{ℕ, _<_, _≤_, _+_, min, suc, zero}
 use mathlib.Core.Path.{_≡_, subst, sym, ap, _∙_, refl}
 use mathlib.Core.List.{List}
 use native.Mathlib.Omega.{arith}

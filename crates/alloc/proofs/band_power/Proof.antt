@@ -1,6 +1,6 @@
 -- `alloc::band_power` meets its contract: the bins that the band and the channel share are summed.
 -- Assumes nothing.
-use Prim.Native.Nat.{_<_, _≤_, _+_, _-_, min, max}
+use Prim.Native.Nat.{_<_, _≤_, _+_, min, max}
 use mathlib.Core.Path.{_≡_}
 use native.Mathlib.Omega.{arith}
 use borrow.Author.Needs.{needs}

@@ -1,6 +1,6 @@
 -- `alloc::logadd` meets its contract: the distance is the place in the table.
 -- Assumes nothing.
-use Prim.Native.Nat.{_<_, _^_, _+_, _/_, min}
+use Prim.Native.Nat.{_<_, _^_, _/_, min}
 use mathlib.Core.Path.{_≡_}
 use native.Mathlib.Omega.{arith}
 use borrow.Author.Needs.{needs}

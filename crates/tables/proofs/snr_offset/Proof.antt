@@ -1,6 +1,6 @@
 -- `tables::snr_offset` meets its contract: every step fits.
 -- Assumes nothing.
-use Prim.Native.Nat.{ℕ, _<_, _≤_, _*_, _^_}
+use Prim.Native.Nat.{ℕ, _<_, _≤_, _^_}
 use native.Mathlib.Omega.{arith}
 use borrow.Author.Needs.{needs}
 use lib.IntN.{pos, _-ℤ_, _+ℤ_, _*ℤ_}
