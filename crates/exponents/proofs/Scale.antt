@@ -6,7 +6,7 @@ use mathlib.Core.Bool.{Bool, true, false, cond}
 use mathlib.Core.List.{List, [], _∷_, _++_}
 use native.Mathlib.Omega.{arith}
 use lib.Dec.{ltb}
-use lib.ListN.{length, getD, set, replicate}
+use lib.ListN.{length, set, replicate}
 use lib.Seq.{sets}
 use Rattle.refusal.specs.Refusals.{Outcome, taken, refused, refuseIf, Ran, follow}
 use Rattle.syntax.specs.Reads.{Standing, readOf}
@@ -23,11 +23,6 @@ use Rattle.exponents.proofs.Turns.{groups-inside}
 abbrev pub Low : List ℕ → Type 0
 Low [] = Unit {0}
 Low (x ∷ xs) = (x ≤ 24) × Low xs
-
-pub low-at : (l : List ℕ) → Low l → (i : ℕ) → getD l i 0 ≤ 24
-low-at [] h i = omega arith
-low-at (x ∷ l) h zero = h .0
-low-at (x ∷ l) h (suc i) = low-at l (h .1) i
 
 low-append : (xs ys : List ℕ) → Low xs → Low ys → Low (xs ++ ys)
 low-append [] ys h k = k

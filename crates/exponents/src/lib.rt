@@ -45,10 +45,10 @@ pub struct Exponents {
 }
 
 // A reading under way: the reader, the last result, and the bin of the next.
-pub struct Run {
-    pub reader: Reader,
-    pub last: u8,
-    pub next: usize,
+struct Run {
+    reader: Reader,
+    last: u8,
+    next: usize,
 }
 
 // Whether a set can't be asked for so: its slot, its strategy or its range.
