@@ -12,13 +12,14 @@ use Rattle.refusal.specs.declared.Refusal.{Refusal}
 use Rattle.refusal.specs.Refusals.{Grounds, Outcome, taken, refused, grounds, told, refuseIf, andThen, Ran}
 use Rattle.tables.specs.declared.Delta.{Delta}
 use Rattle.tables.specs.Bands.{zeros}
+use Rattle.tables.specs.Pointers.{pointersBy}
 use Rattle.tables.specs.Fits.{tablesFit}
 use Rattle.alloc.specs.declared.Ended.{Ended}
 use Rattle.alloc.specs.declared.Ended.the-variants as ended
 use Rattle.alloc.specs.declared.Allocated.{Allocated}
 use Rattle.alloc.specs.Answers.{filled, endedOf, allocatedOf, allocateOf}
 use Rattle.blocks.specs.declared.AllocState.{AllocState}
-use Rattle.blocks.specs.Block.{Slot, codesFit, quiet, noDelta, codesAt, leakAt, deltaAt, pointersBy, uncovered, slotOf, left, slotsFrom, silence, filledSlots, allocateBlockOf}
+use Rattle.blocks.specs.Block.{Slot, codesFit, quiet, noDelta, codesAt, leakAt, deltaAt, uncovered, slotOf, left, slotsFrom, silence, filledSlots, allocateBlockOf}
 
 -- what a call comes to, by its parts
 pub ran-is : {S : Type 0} {o p : Outcome Unit} {a b : S} → o ≡ p → a ≡ b → _≡_ {A = Ran S Unit} (record { outcome = o; state = a }) (record { outcome = p; state = b })

@@ -15,7 +15,7 @@ use Rattle.tables.specs.declared.Pointers.{Pointers}
 use Rattle.tables.specs.Codes.{codeAt, slowDecay, fastDecay, slowGain, kneeTable, floorTable, fastGain, leakOf, snrOffset, fineOf, snrOf}
 use Rattle.tables.specs.Bands.{zeros}
 use Rattle.tables.specs.Fits.{upto, tablesFit, deltaFits}
-use Rattle.tables.specs.Pointers.{tableOf}
+use Rattle.tables.specs.Pointers.{pointersBy, tableOf}
 use Rattle.refusal.proofs.TestLaws.{and-left, and-right}
 use Rattle.tables.proofs.FitLaws.{upto-at}
 use Rattle.alloc.specs.declared.Codes.{Codes}
@@ -25,7 +25,7 @@ use Rattle.alloc.specs.Channel.{pointersOf}
 use Rattle.alloc.specs.Params.{curveOf, levelsOf, beginsAt, leaksOf, startOf}
 use Rattle.alloc.specs.Answers.{filled, channelOf, allocateOf}
 use Rattle.blocks.specs.declared.AllocState.{AllocState}
-use Rattle.blocks.specs.Block.{baiFits, leakFits, ifSent, sentFit, othersFit, deltasFit, codesFit, noDelta, codesAt, leakAt, deltaAt, pointersBy, uncovered, slotOf}
+use Rattle.blocks.specs.Block.{baiFits, leakFits, ifSent, sentFit, othersFit, deltasFit, codesFit, noDelta, codesAt, leakAt, deltaAt, uncovered, slotOf}
 use Rattle.blocks.specs.Order.{among, byOneOf, InOrder}
 
 -- the numbers of a slot

@@ -10,9 +10,9 @@ use Rattle.refusal.specs.Refusals.{Outcome, taken, refuseIf, andThen, Ran, leav
 use Rattle.bits.specs.declared.Put.{Put}
 use Rattle.bits.specs.Answers.{doneOf}
 use Rattle.tables.specs.declared.Delta.{Delta}
-use Rattle.tables.specs.declared.Pointers.{Pointers}
-use Rattle.tables.specs.declared.Pointers.the-variants as which
 use Rattle.tables.specs.Bands.{zeros}
+use Rattle.tables.specs.Pointers.{pointersBy}
+use Rattle.tables.specs.Slots.{slotCount, isCoupling, isLfe}
 use Rattle.tables.specs.Fits.{upto, tablesFit, deltaFits}
 use Rattle.alloc.specs.declared.Codes.{Codes}
 use Rattle.alloc.specs.declared.Leak.{Leak}
@@ -50,7 +50,7 @@ slotAt present high exponents ranges i = slotBy (getD present i false) (getD hig
 
 -- the seven slots in order: "one entry a slot, so no slot comes twice"
 unfoldable pub asked : List Bool → List Bool → List (List ℕ) → List (List ℕ) → List Slot
-asked present high exponents ranges = table 7 (slotAt present high exponents ranges)
+asked present high exponents ranges = table slotCount (slotAt present high exponents ranges)
 
 -- 11 for the five parameters: "decays, slow gain, knee at most 3", and the floor at most 7
 unfoldable pub baiFits : AllocState → Bool
@@ -73,7 +73,7 @@ sentFit st =
 
 -- "all others are, present slot or not": each slot's fast gain at most 7, its fsnroffst at most 15, and fscod at most 2
 unfoldable pub othersFit : AllocState → ℕ → Bool
-othersFit st fscod = upto 7 (st .fgaincod) 0 7 && (upto 15 (st .fsnroffst) 0 7 && leb fscod 2)
+othersFit st fscod = upto 7 (st .fgaincod) 0 slotCount && (upto 15 (st .fsnroffst) 0 slotCount && leb fscod 2)
 
 -- "at most 8 segments, each 31, 15, 7", of every slot
 unfoldable pub deltasFit : List Delta → Bool
@@ -114,18 +114,14 @@ codesAt st fscod i =
 
 -- coupling's leak, and none for the others
 unfoldable pub leakAt : AllocState → ℕ → Leak
-leakAt st i = cond (eqb i 5) (leak.Codes (st .cplfleak) (st .cplsleak)) leak.None
+leakAt st i = cond (isCoupling i) (leak.Codes (st .cplfleak) (st .cplsleak)) leak.None
 
 -- a slot's segments in the state, and those that apply: "LFE takes none"
 abbrev pub segmentsAt : AllocState → ℕ → Delta
 segmentsAt st i = getD (st .delta) i noDelta
 
 unfoldable pub deltaAt : AllocState → ℕ → Delta
-deltaAt st i = cond (eqb i 6) noDelta (segmentsAt st i)
-
--- hebap or bap
-unfoldable pub pointersBy : Bool → Pointers
-pointersBy high = cond high which.Hebap which.Bap
+deltaAt st i = cond (isLfe i) noDelta (segmentsAt st i)
 
 -- 12: "exponent range doesn't cover the asked range"
 unfoldable pub uncovered : Slot → Bool
@@ -138,7 +134,7 @@ slotOf st fscod hearing logAdd i s =
     (thenRun
     (filled
     (refuseIf (uncovered s) 12 0
-    (refuseIf (eqb i 5 && not (st .«cplleak_sent»)) 10 0
+    (refuseIf (isCoupling i && not (st .«cplleak_sent»)) 10 0
     (taken zeros))))
     (λ _ _. allocateOf (s .exp) (s .start) (s .end) (codesAt st fscod i) (leakAt st i) (deltaAt st i) (pointersBy (s .high)) hearing logAdd))
 
@@ -156,7 +152,7 @@ slotsFrom st fscod hearing logAdd i (s ∷ ss) =
 
 -- all slots zero
 abbrev pub silence : List (List ℕ)
-silence = replicate 7 zeros
+silence = replicate slotCount zeros
 
 -- what an answer means, with the pointers beside it
 abbrev pub blockOf : Put → List (List ℕ) → Ran (List (List ℕ)) Unit

@@ -9,6 +9,7 @@ use lib.Dec.{eqb}
 use lib.ListN.{length}
 use Rattle.refusal.specs.Refusals.{Outcome, taken, refused}
 use Rattle.tables.specs.Fits.{tablesFit}
+use Rattle.tables.specs.Slots.{slotCount}
 use Rattle.blocks.specs.declared.AllocState.{AllocState}
 use Rattle.blocks.specs.Block.{Slot, codesFit, slotOf}
 
@@ -28,10 +29,10 @@ pub record Tested (st : AllocState) (fscod : ℕ) (hearing logAdd : List ℕ) : 
   pub codes : codesFit st fscod ≡ true
   pub csnroffst : st .«csnroffst_sent» ≡ true
   pub parameters : st .«bai_sent» ≡ true
-  pub slots : length (st .delta) ≡ 7
+  pub slots : length (st .delta) ≡ slotCount
 
 -- then a slot is refused by 12, 10, 6 or 8 alone
 abbrev pub InOrder : Type 0
 InOrder =
-    (st : AllocState) (fscod : ℕ) (hearing logAdd : List ℕ) → Tested st fscod hearing logAdd → (i : ℕ) → i < 7 → (s : Slot)
+    (st : AllocState) (fscod : ℕ) (hearing logAdd : List ℕ) → Tested st fscod hearing logAdd → (i : ℕ) → i < slotCount → (s : Slot)
     → byOneOf (12 ∷ 10 ∷ 6 ∷ 8 ∷ []) (slotOf st fscod hearing logAdd i s .outcome) ≡ true

@@ -15,6 +15,7 @@ use Rattle.syntax.specs.declared.Role.the-variants as role
 use Rattle.syntax.specs.Names as names
 use Rattle.syntax.specs.Reads.{Standing, standing, readerOf, readOf}
 use Rattle.tables.specs.declared.Delta.{Delta}
+use Rattle.tables.specs.Slots.{noSlot, isCoupling}
 use Rattle.blocks.specs.declared.AllocState.{AllocState}
 use Rattle.blocks.specs.declared.Told.{Told}
 use Rattle.blocks.specs.declared.Gathered.{Gathered}
@@ -52,7 +53,7 @@ badCode code block0 = ltb 2 code || (eqb code 0 && block0)
 -- the segments of a slot after a deltbae code: 6 for the slot, then 15; 2 is no segments, 0 and 1 leave them
 unfoldable pub codeOf : Delta → ℕ → ℕ → Bool → Outcome Delta
 codeOf d slot code block0 =
-    refuseIf (ltb 6 slot) 6 0
+    refuseIf (noSlot slot) 6 0
     (refuseIf (badCode code block0) 15 0
     (taken (cond (eqb code 2) noDelta d)))
 
@@ -62,7 +63,7 @@ deltaCodeOf st slot code block0 = leaves st (andThen (codeOf (segmentsAt st slot
 
 -- an element of a slot's segments, logged with the slot for its index; coupling has names of its own
 abbrev pub fieldAsk : ℕ → ℕ → ℕ → ℕ → Ask
-fieldAsk name cplName width slot = record { name = cond (eqb slot 5) cplName name; role = role.Plain; index = pos slot; width = width }
+fieldAsk name cplName width slot = record { name = cond (isCoupling slot) cplName name; role = role.Plain; index = pos slot; width = width }
 
 -- deltnseg, deltoffst, deltlen, deltba: 3, 5, 4, 3 bits
 abbrev pub nsegAsk : ℕ → Ask
@@ -106,7 +107,7 @@ deltaOf frame slot st = thenRun (readOf frame st (nsegAsk slot)) (λ n st₁. se
 -- 6 for the slot, at the cursor's bit; else its segments
 unfoldable pub slotDeltaOf : List ℕ → Standing → ℕ → Ran Standing Delta
 slotDeltaOf frame st slot =
-    thenRun {A = Unit} (settle st st (refuseIf (ltb 6 slot) 6 (st .place .pos) (taken tt))) (λ _ st₁. deltaOf frame slot st₁)
+    thenRun {A = Unit} (settle st st (refuseIf (noSlot slot) 6 (st .place .pos) (taken tt))) (λ _ st₁. deltaOf frame slot st₁)
 
 -- what a reading leaves behind: the cursor's numbers and the log, and what is kept of it
 pub record Stood (S : Type 0) : Type 0 where

@@ -1,5 +1,5 @@
 // Side information and block allocation (TS 6.2.2; document 01, "Allocation"): what the blocks of a frame carry on, and the pointers of all
-// slots of a block. Slots 0 to 4 are the full bandwidth channels, 5 is coupling, 6 is LFE.
+// slots of a block.
 use alloc::Allocated;
 use alloc::Codes;
 use alloc::Ended;
@@ -13,8 +13,10 @@ use syntax::Reader;
 use syntax::Role;
 use syntax::names;
 use tables::Bin;
+use tables::CPL;
 use tables::Delta;
-use tables::Pointers;
+use tables::LFE;
+use tables::SLOTS;
 ghost use mathlib.Core.Path.{_≡_};
 ghost use mathlib.Core.List.{List, []};
 ghost use Rattle.bits.specs.Answers.{doneOf};
@@ -24,8 +26,10 @@ ghost use lib.Dec.{ltb, eqb};
 ghost use Rattle.refusal.specs.Refusals.{numberOf, grounds, taken, refused as refusedOf, andThen, leaves, thenRun};
 ghost use Rattle.syntax.specs.Reads.{standing, seenOf, readerOf};
 ghost use Rattle.tables.specs.Bands.{zeros};
+ghost use Rattle.tables.specs.Pointers.{pointersBy};
+ghost use Rattle.tables.specs.Slots.{slotCount, isCoupling};
 ghost use Rattle.alloc.specs.Answers.{endedOf, allocatedOf, allocateOf};
-ghost use Rattle.blocks.specs.Block.{baiFits, leakFits, ifSent, sentFit, othersFit, deltasFit, codesFit, quietFrom, quiet, noDelta, codesAt, leakAt, deltaAt, pointersBy, slotBy, asked, slotOf, blockOf, filledSlots, silence, slotsFrom, allocateBlockOf};
+ghost use Rattle.blocks.specs.Block.{baiFits, leakFits, ifSent, sentFit, othersFit, deltasFit, codesFit, quietFrom, quiet, noDelta, codesAt, leakAt, deltaAt, slotBy, asked, slotOf, blockOf, filledSlots, silence, slotsFrom, allocateBlockOf};
 ghost use Rattle.blocks.specs.Side.{badCode, codeOf, fieldAsk, withSegment, segmentOf, segmentsOf, slotDeltaOf, stoodOf, over, gatheredOf, toldOf, deltaReadOf};
 
 // The side information that a frame's blocks carry on, by its names in TS, not yet decoded. Beside what may be unsent stands whether it
@@ -39,12 +43,12 @@ pub struct AllocState {
     pub floorcod: u8,
     pub csnroffst_sent: bool,
     pub csnroffst: u8,
-    pub fsnroffst: [u8; 7],
-    pub fgaincod: [u8; 7],
+    pub fsnroffst: [u8; SLOTS],
+    pub fgaincod: [u8; SLOTS],
     pub cplleak_sent: bool,
     pub cplfleak: u8,
     pub cplsleak: u8,
-    pub delta: [Delta; 7],
+    pub delta: [Delta; SLOTS],
 }
 
 // Whether the five parameters are in their tables.
@@ -104,11 +108,11 @@ fn others_fit(state: AllocState, fscod: u8) -> bool
     ensures { λ r. ⌜ r ≡ othersFit state fscod ⌝ }
 {
     let gain = state.fgaincod;
-    if !tables::all_upto(&gain, 0, 7, 7) {
+    if !tables::all_upto(&gain, 0, SLOTS, 7) {
         return false;
     }
     let fine = state.fsnroffst;
-    if !tables::all_upto(&fine, 0, 7, 15) {
+    if !tables::all_upto(&fine, 0, SLOTS, 15) {
         return false;
     }
     fscod <= 2
@@ -119,7 +123,7 @@ fn deltas_fit(state: AllocState) -> bool
     ensures { λ r. ⌜ r ≡ deltasFit (state .delta) ⌝ }
 {
     let mut i: usize = 0;
-    while i < 7 {
+    while i < SLOTS {
         if !tables::delta_fits(state.delta[i]) {
             return false;
         }
@@ -152,11 +156,11 @@ fn is_quiet(present: bool, fsnroffst: u8) -> bool
 }
 
 // Whether no slot that is there has a fine offset, whatever else is asked for it.
-fn quiet_slots(state: AllocState, present: &[bool; 7]) -> bool
+fn quiet_slots(state: AllocState, present: &[bool; SLOTS]) -> bool
     ensures { λ r. ⌜ ((high : List Bool) (exponents ranges : List (List ℕ)) → r ≡ quietFrom (state .fsnroffst) 0 (asked (now (present .entry)) high exponents ranges)) ⌝ }
 {
     let mut i: usize = 0;
-    while i < 7 {
+    while i < SLOTS {
         if !is_quiet(present[i], state.fsnroffst[i]) {
             return false;
         }
@@ -166,7 +170,7 @@ fn quiet_slots(state: AllocState, present: &[bool; 7]) -> bool
 }
 
 // Whether no offset is in use.
-fn all_quiet(state: AllocState, present: &[bool; 7]) -> bool
+fn all_quiet(state: AllocState, present: &[bool; SLOTS]) -> bool
     ensures { λ r. ⌜ ((high : List Bool) (exponents ranges : List (List ℕ)) → r ≡ quiet state (asked (now (present .entry)) high exponents ranges)) ⌝ }
 {
     if state.csnroffst == 0 {
@@ -177,7 +181,7 @@ fn all_quiet(state: AllocState, present: &[bool; 7]) -> bool
 
 // The codes of a slot.
 fn codes_of(state: AllocState, fscod: u8, i: usize) -> Codes
-    requires { ⌜ i < 7 ⌝ }
+    requires { ⌜ i < slotCount ⌝ }
     ensures { λ r. ⌜ r ≡ codesAt state fscod i ⌝ }
 {
     let gain = state.fgaincod[i];
@@ -199,7 +203,7 @@ fn codes_of(state: AllocState, fscod: u8, i: usize) -> Codes
 fn leak_of(state: AllocState, i: usize) -> Leak
     ensures { λ r. ⌜ r ≡ leakAt state i ⌝ }
 {
-    if i == 5 {
+    if i == CPL {
         return Leak::Codes(state.cplfleak, state.cplsleak);
     }
     Leak::None
@@ -219,23 +223,13 @@ fn no_delta() -> Delta
 
 // The segments that apply to a slot: LFE takes none.
 fn delta_of(state: AllocState, i: usize) -> Delta
-    requires { ⌜ i < 7 ⌝ }
+    requires { ⌜ i < slotCount ⌝ }
     ensures { λ r. ⌜ r ≡ deltaAt state i ⌝ }
 {
-    if i == 6 {
+    if i == LFE {
         return no_delta();
     }
     state.delta[i]
-}
-
-// Which pointers a slot has.
-fn pointers_of(high: bool) -> Pointers
-    ensures { λ r. ⌜ r ≡ pointersBy high ⌝ }
-{
-    if high {
-        return Pointers::Hebap;
-    }
-    Pointers::Bap
 }
 
 // Whether the exponents don't cover the range asked for.
@@ -250,9 +244,9 @@ fn is_uncovered(exp_start: usize, exp_end: usize, start: usize, end: usize) -> b
 
 // Whether a slot needs a leak that was not sent.
 fn lacks_leak(state: AllocState, i: usize) -> bool
-    ensures { λ r. ⌜ r ≡ (eqb i 5 && not (state .«cplleak_sent»)) ⌝ }
+    ensures { λ r. ⌜ r ≡ (isCoupling i && not (state .«cplleak_sent»)) ⌝ }
 {
-    if i == 5 {
+    if i == CPL {
         return !state.cplleak_sent;
     }
     false
@@ -278,13 +272,13 @@ fn channel_of(
     hearing: &[u16],
     log_add: &[u8],
 ) -> Allocated
-    requires { ⌜ i < 7 ⌝ }
+    requires { ⌜ i < slotCount ⌝ }
     ensures { λ r. ⌜ allocatedOf r ≡ allocateOf (now (exp .entry)) (start .0) (end .0) (codesAt state fscod i) (leakAt state i) (deltaAt state i) (pointersBy high) (now (hearing .entry)) (now («log_add» .entry)) ⌝ }
 {
     let codes = codes_of(state, fscod, i);
     let leak = leak_of(state, i);
     let delta = delta_of(state, i);
-    let which = pointers_of(high);
+    let which = tables::pointers_by(high);
     alloc::allocate(exp, start, end, codes, leak, delta, which, hearing, log_add)
 }
 
@@ -301,7 +295,7 @@ fn fill_slot(
     log_add: &[u8],
     row: &mut [u8; 256],
 ) -> Ended
-    requires { ⌜ (i < 7) × (now row ≡ zeros) ⌝ }
+    requires { ⌜ (i < slotCount) × (now row ≡ zeros) ⌝ }
     ensures { λ r. ⌜ allocatedOf (record { answer = r; bap = now (row .exit) }) ≡ slotOf state fscod (now (hearing .entry)) (now («log_add» .entry)) i (slotBy present high (now (exp .entry)) range) ⌝ }
 {
     if !present {
@@ -324,30 +318,30 @@ fn fill_slot(
 }
 
 // Zeros for every slot.
-fn zero_rows(bap: &mut [[u8; 256]; 7])
+fn zero_rows(bap: &mut [[u8; 256]; SLOTS])
     ensures { λ r. ⌜ now (bap .exit) ≡ silence ⌝ }
 {
     let zero: [u8; 256] = [0; 256];
-    *bap = [zero; 7];
+    *bap = [zero; SLOTS];
 }
 
 // The slots in order, each into its row of zeros, up to the first that is refused.
 fn fill_slots(
     state: AllocState,
     fscod: u8,
-    present: &[bool; 7],
-    high: &[bool; 7],
-    exponents: &[[u8; 256]; 7],
-    ranges: &[[usize; 4]; 7],
+    present: &[bool; SLOTS],
+    high: &[bool; SLOTS],
+    exponents: &[[u8; 256]; SLOTS],
+    ranges: &[[usize; 4]; SLOTS],
     hearing: &[u16],
     log_add: &[u8],
-    bap: &mut [[u8; 256]; 7],
+    bap: &mut [[u8; 256]; SLOTS],
 ) -> Put
     requires { ⌜ now bap ≡ silence ⌝ }
     ensures { λ r. ⌜ blockOf r (now (bap .exit)) ≡ filledSlots (slotsFrom state fscod (now (hearing .entry)) (now («log_add» .entry)) 0 (asked (now (present .entry)) (now (high .entry)) (now (exponents .entry)) (now (ranges .entry)))) ⌝ }
 {
     let mut i: usize = 0;
-    while i < 7 {
+    while i < SLOTS {
         let one = fill_slot(
             state,
             fscod,
@@ -403,13 +397,13 @@ fn first_tests(state: AllocState, fscod: u8, hearing: &[u16], log_add: &[u8]) ->
 pub fn allocate_block(
     state: AllocState,
     fscod: u8,
-    present: &[bool; 7],
-    high: &[bool; 7],
-    exponents: &[[u8; 256]; 7],
-    ranges: &[[usize; 4]; 7],
+    present: &[bool; SLOTS],
+    high: &[bool; SLOTS],
+    exponents: &[[u8; 256]; SLOTS],
+    ranges: &[[usize; 4]; SLOTS],
     hearing: &[u16],
     log_add: &[u8],
-    bap: &mut [[u8; 256]; 7],
+    bap: &mut [[u8; 256]; SLOTS],
 ) -> Put
     ensures { λ r. ⌜ blockOf r (now (bap .exit)) ≡ allocateBlockOf state fscod (asked (now (present .entry)) (now (high .entry)) (now (exponents .entry)) (now (ranges .entry))) (now (hearing .entry)) (now («log_add» .entry)) ⌝ }
 {
@@ -479,7 +473,7 @@ fn refused_code(why: Why, delta: Delta) -> Told
 pub fn delta_code(delta: Delta, slot: usize, code: u32, block0: bool) -> Told
     ensures { λ r. ⌜ toldOf r ≡ leaves delta (codeOf delta slot code block0) ⌝ }
 {
-    if slot > 6 {
+    if slot > LFE {
         return refused_code(Why::BadArgument, delta);
     }
     let none = no_delta();
@@ -500,11 +494,11 @@ pub fn delta_code(delta: Delta, slot: usize, code: u32, block0: bool) -> Told
 
 // An element of a slot's segments. Coupling has names of its own.
 fn field(name: u32, cpl_name: u32, width: usize, slot: usize) -> Ask
-    requires { ⌜ slot < 7 ⌝ }
+    requires { ⌜ slot < slotCount ⌝ }
     ensures { λ r. ⌜ r ≡ fieldAsk name «cpl_name» width slot ⌝ }
 {
     let index = slot as i16;
-    if slot == 5 {
+    if slot == CPL {
         return Ask {
             name: cpl_name,
             role: Role::Plain,
@@ -544,7 +538,7 @@ fn put_segment(delta: Delta, offset: u8, len: u8, ba: u8) -> Delta
 
 // Reads one segment more.
 fn segment(frame: &[u8], log: &mut [u32], w: Gathered, slot: usize) -> Gathered
-    requires { ⌜ (slot < 7) × (w .delta .count < 8) ⌝ }
+    requires { ⌜ (slot < slotCount) × (w .delta .count < 8) ⌝ }
     ensures { λ r. ⌜ (gatheredOf r (now (log .exit)) ≡ thenRun (gatheredOf w (now (log .entry))) (λ d st. segmentOf (now (frame .entry)) slot d st)) × (r .delta .count ≡ w .delta .count + 1) ⌝ }
 {
     let r = w.reader;
@@ -576,7 +570,7 @@ fn segment(frame: &[u8], log: &mut [u32], w: Gathered, slot: usize) -> Gathered
 
 // Reads n segments.
 fn segments(frame: &[u8], log: &mut [u32], reader: Reader, slot: usize, n: usize) -> Gathered
-    requires { ⌜ (slot < 7) × (n ≤ 8) ⌝ }
+    requires { ⌜ (slot < slotCount) × (n ≤ 8) ⌝ }
     ensures { λ r. ⌜ gatheredOf r (now (log .exit)) ≡ segmentsOf (now (frame .entry)) slot n (over (readerOf reader (now (log .entry))) noDelta) ⌝ }
 {
     let none = no_delta();
@@ -621,7 +615,7 @@ pub fn read_delta(
 ) -> DeltaRead
     ensures { λ r. ⌜ deltaReadOf r (now (log .exit)) ≡ stoodOf delta (slotDeltaOf (now (frame .entry)) (standing place (now (log .entry))) slot) ⌝ }
 {
-    if slot > 6 {
+    if slot > LFE {
         let r = Refusal {
             why: Why::BadArgument,
             bit: place.pos,

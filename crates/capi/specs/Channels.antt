@@ -8,8 +8,6 @@ use Rattle.alloc.specs.declared.Codes.{Codes}
 use Rattle.alloc.specs.declared.Leak.{Leak}
 use Rattle.alloc.specs.declared.Leak.the-variants as leak
 use Rattle.tables.specs.declared.Delta.{Delta}
-use Rattle.tables.specs.declared.Pointers.{Pointers}
-use Rattle.tables.specs.declared.Pointers.the-variants as pointers
 
 -- the codes, in the order of their names
 abbrev pub codesFrom : List ℕ → Codes
@@ -23,7 +21,3 @@ leakFrom has f s = cond has (leak.Codes f s) leak.None
 -- the delta segments
 abbrev pub deltaFrom : ℕ → List ℕ → List ℕ → List ℕ → Delta
 deltaFrom n offset length ba = record { count = n; offset = offset; len = length; ba = ba }
-
--- the table of pointers
-abbrev pub pointersFrom : Bool → Pointers
-pointersFrom high = cond high pointers.Hebap pointers.Bap

@@ -18,16 +18,16 @@ use syntax::Found;
 use syntax::Place;
 use tables::Bin;
 use tables::Delta;
-use tables::Pointers;
 ghost use mathlib.Core.Path.{_≡_};
 ghost use lib.ListN.{length};
 ghost use Rattle.syntax.specs.Elements.{roleOf, isDrc, isChecksum, isSpan};
 ghost use Rattle.syntax.specs.Reads.{standing, readOf, rawOf, spanOf, closeOf};
 ghost use Rattle.syntax.specs.Tiling.{tilingOf, elementAt};
+ghost use Rattle.tables.specs.Pointers.{pointersBy};
 ghost use Rattle.alloc.specs.Answers.{endedOf, allocateOf};
 ghost use Rattle.convention.specs.Replies.{reply, replyOf, told, toldOf, running, runningOf};
 ghost use Rattle.capi.specs.Standings.{placeOf, barePlaceOf, askOf, stood, stoodOf, moved, movedOf, advanced, advancedOf, fields, fieldsAt, noFields};
-ghost use Rattle.capi.specs.Channels.{codesFrom, leakFrom, deltaFrom, pointersFrom};
+ghost use Rattle.capi.specs.Channels.{codesFrom, leakFrom, deltaFrom};
 
 // syntax::is_drc, of the role of a word.
 #[no_mangle]
@@ -278,16 +278,6 @@ fn delta_from(segments: u8, offset: &[u8; 8], length: &[u8; 8], ba: &[u8; 8]) ->
     }
 }
 
-// The table of pointers: hebap where `high`.
-fn pointers_from(high: bool) -> Pointers
-    ensures { λ r. ⌜ r ≡ pointersFrom high ⌝ }
-{
-    if high {
-        return Pointers::Hebap;
-    }
-    Pointers::Bap
-}
-
 // alloc::allocate.
 #[no_mangle]
 pub extern "C" fn zela_allocate(
@@ -308,12 +298,12 @@ pub extern "C" fn zela_allocate(
     bap: &mut [u8; 256],
     bit: &mut usize,
 ) -> u8
-    ensures { λ k. ⌜ running k (now (bit .exit)) (now (bap .exit)) ≡ runningOf (allocateOf (now (exponents .entry)) start end (codesFrom (now (codes .entry))) (leakFrom «has_leak» cplfleak cplsleak) (deltaFrom segments (now (offset .entry)) (now (length .entry)) (now (ba .entry))) (pointersFrom high) (now (hearing .entry)) (now («log_add» .entry))) ⌝ }
+    ensures { λ k. ⌜ running k (now (bit .exit)) (now (bap .exit)) ≡ runningOf (allocateOf (now (exponents .entry)) start end (codesFrom (now (codes .entry))) (leakFrom «has_leak» cplfleak cplsleak) (deltaFrom segments (now (offset .entry)) (now (length .entry)) (now (ba .entry))) (pointersBy high) (now (hearing .entry)) (now («log_add» .entry))) ⌝ }
 {
     let side = codes_from(codes);
     let leak = leak_from(has_leak, cplfleak, cplsleak);
     let delta = delta_from(segments, offset, length, ba);
-    let which = pointers_from(high);
+    let which = tables::pointers_by(high);
     let r = alloc::allocate(
         exponents,
         Bin(start),

@@ -3,10 +3,11 @@ use crate::place_of;
 use blocks::AllocState;
 use convention::done;
 use tables::Delta;
+use tables::LFE;
 ghost use mathlib.Core.Path.{_≡_};
 ghost use Prim.Native.Nat.{_≤_};
-ghost use lib.Dec.{ltb};
 ghost use Rattle.syntax.specs.Reads.{standing};
+ghost use Rattle.tables.specs.Slots.{noSlot};
 ghost use Rattle.alloc.specs.Table.{from};
 ghost use Rattle.blocks.specs.Block.{segmentsAt};
 ghost use Rattle.blocks.specs.Side.{withDelta, deltaCodeOf, readDeltaOf};
@@ -140,11 +141,11 @@ fn row_of(d: Delta) -> [u8; 25]
     ]
 }
 
-// A slot's segments. A slot above 6 has none.
+// A slot's segments. A slot that there is not has none.
 fn segments_at(rows: &[[u8; 25]; 8], slot: usize) -> Delta
     ensures { λ r. ⌜ r ≡ segmentsAt (stateFrom (now (rows .entry))) slot ⌝ }
 {
-    if slot > 6 {
+    if slot > LFE {
         return Delta {
             count: 0,
             offset: [0; 8],
@@ -158,9 +159,9 @@ fn segments_at(rows: &[[u8; 25]; 8], slot: usize) -> Delta
 
 // Whether a slot has no row. The rows come by value: a value's type tells the proof that they are eight of 25 bytes each, which a reference does not.
 fn lacks_row(rows: [[u8; 25]; 8], slot: usize) -> bool
-    ensures { λ r. ⌜ (r ≡ ltb 6 slot) × Whole rows ⌝ }
+    ensures { λ r. ⌜ (r ≡ noSlot slot) × Whole rows ⌝ }
 {
-    slot > 6
+    slot > LFE
 }
 
 // Puts a slot's segments in its row.

@@ -14,7 +14,8 @@ use Rattle.refusal.proofs.TestLaws.{or-false}
 use Rattle.syntax.proofs.ReadLaws.{read-taken}
 use Rattle.exponents.specs.declared.ExpSet.{ExpSet}
 use Rattle.tables.specs.Bands.{zeros}
-use Rattle.exponents.specs.Set.{isCoupling, sizeOf, groupCount, allDigits, running, offScale, outside, spread, firstOf, leading, outputs, baseOf, binsOf}
+use Rattle.tables.specs.Slots.{isCoupling}
+use Rattle.exponents.specs.Set.{sizeOf, groupCount, allDigits, running, offScale, outside, spread, firstOf, leading, outputs, baseOf, binsOf}
 use Rattle.exponents.specs.Reads.{fitOf, absAsk, groupAsk, groupsOf, setOf, setIn, readExponentsOf}
 use Rattle.exponents.proofs.Lists.{on-scale}
 use Rattle.exponents.proofs.Turns.{groups-inside}

@@ -16,6 +16,7 @@ use Rattle.syntax.specs.Reads.{Standing, standing, readOf}
 use Rattle.exponents.specs.declared.ExpSet.{ExpSet}
 use Rattle.exponents.specs.declared.Exponents.{Exponents}
 use Rattle.tables.specs.Bands.{zeros}
+use Rattle.tables.specs.Slots.{noSlot}
 use Rattle.exponents.specs.Set.{bySlot, sizeOf, groupCount, allDigits, outside, firstOf, outputs, baseOf, binsOf}
 
 -- what reading a set leaves behind: the cursor's numbers and the log, and the set
@@ -32,7 +33,7 @@ exponentsOf r log = record { outcome = doneOf (r .answer); state = left (standin
 
 -- "6 for slot, strategy, then range (start < end ≤ 256 required)"
 abbrev pub unfit : ℕ → ℕ → ℕ → ℕ → Bool
-unfit slot strategy start end = ltb 6 slot || ltb strategy 1 || ltb 3 strategy || leb end start || ltb 256 end
+unfit slot strategy start end = noSlot slot || ltb strategy 1 || ltb 3 strategy || leb end start || ltb 256 end
 
 abbrev pub fitOf : Standing → ℕ → ℕ → ℕ → ℕ → Ran Standing Unit
 fitOf st slot strategy start end = ends st (refuseIf (unfit slot strategy start end) 6 (st .place .pos) (taken tt))

@@ -5,16 +5,13 @@ use mathlib.Core.Bool.{Bool, false, cond, _||_}
 use mathlib.Core.List.{List, [], _∷_, _++_}
 use lib.ListN.{replicate}
 use lib.Seq.{sets}
-use lib.Dec.{eqb, ltb}
+use lib.Dec.{ltb}
 use Rattle.tables.specs.Bands.{zeros}
-
--- of the slots, 5 is coupling and 6 is LFE
-abbrev pub isCoupling : ℕ → Bool
-isCoupling slot = eqb slot 5
+use Rattle.tables.specs.Slots.{isCoupling, isLfe}
 
 -- what goes for a full bandwidth channel, for coupling and for LFE
 abbrev pub bySlot : {A : Type 0} → ℕ → A → A → A → A
-bySlot slot full coupling lfe = cond (isCoupling slot) coupling (cond (eqb slot 6) lfe full)
+bySlot slot full coupling lfe = cond (isCoupling slot) coupling (cond (isLfe slot) lfe full)
 
 -- "Group size g is 1, 2, 4"
 unfoldable pub sizeOf : ℕ → ℕ

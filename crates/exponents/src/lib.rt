@@ -25,10 +25,10 @@ ghost use Rattle.exponents.specs.Set.{sizeOf, groupCount, digits, runnin
 ghost use Rattle.exponents.specs.Reads.{exponentsOf, unfit, askOf, noSet, leaves, readExponentsOf};
 ghost use Rattle.exponents.specs.Turns.{runOf, lastOf, begunOf, groupOn, groupsOn, firstOn, finishOn};
 
-// The slots after those of the full bandwidth channels, 0 to 4: coupling, and LFE, the last.
-const CPL: u8 = 5;
+// The slots by their names, in the type that a slot has here.
+const CPL: u8 = tables::CPL as u8;
 
-const LFE: u8 = 6;
+const LFE: u8 = tables::LFE as u8;
 
 // The exponents of a slot, and the range of bins that they were read for.
 pub struct ExpSet {

@@ -28,6 +28,8 @@ use Rattle.tables.proofs.start_of.Kinds as start-of-kinds
 use Rattle.tables.proofs.start_of.Reads as start-of-reads
 use Rattle.tables.proofs.band_of.Kinds as band-of-kinds
 use Rattle.tables.proofs.band_of.Reads as band-of-reads
+use Rattle.tables.proofs.pointers_by.Kinds as pointers-by-kinds
+use Rattle.tables.proofs.pointers_by.Reads as pointers-by-reads
 use Rattle.tables.proofs.table_of.Kinds as table-of-kinds
 use Rattle.tables.proofs.table_of.Reads as table-of-reads
 use Rattle.tables.proofs.all_upto.Kinds as all-upto-kinds
@@ -75,6 +77,9 @@ start-of-one κs a x y s t p q = λ i. record { 0 = (p ∙ sym q) i }
 
 pub band-of-one : Decides 0 band-of-kinds.ps band-of-kinds.r band-of-reads.Post
 band-of-one κs a x y s t p q = λ i. record { 0 = (p ∙ sym q) i }
+
+pub pointers-by-one : Decides 0 pointers-by-kinds.ps pointers-by-kinds.r pointers-by-reads.Post
+pointers-by-one κs a x y s t p q = p ∙ sym q
 
 pub table-of-one : Decides 0 table-of-kinds.ps table-of-kinds.r table-of-reads.Post
 table-of-one κs a x y s t p q = p ∙ sym q

@@ -3,3 +3,4 @@ pub mod Bands
 pub mod Codes
 pub mod Pointers
 pub mod Fits
+pub mod Slots

@@ -1,10 +1,15 @@
--- The tables of pointers by address, as document 01 writes them: value×run.
+-- Which pointers a flag asks for, and the tables of pointers by address, as document 01 writes them: value×run.
 -- Assumes nothing.
 use Prim.Native.Nat.{ℕ}
+use mathlib.Core.Bool.{Bool, cond}
 use mathlib.Core.List.{List, [], _∷_, _++_}
 use lib.ListN.{replicate}
 use Rattle.tables.specs.declared.Pointers.{Pointers}
 use Rattle.tables.specs.declared.Pointers.the-variants as which
+
+-- hebap where the flag is set, and else bap
+unfoldable pub pointersBy : Bool → Pointers
+pointersBy high = cond high which.Hebap which.Bap
 
 -- a value and its run, for each two numbers
 abbrev pub spread : List ℕ → List ℕ

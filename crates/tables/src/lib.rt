@@ -6,7 +6,7 @@ ghost use mathlib.Core.Bool.{_&&_};
 ghost use lib.Dec.{leb};
 ghost use Rattle.tables.specs.Bands.{bandStart, bandOf};
 ghost use Rattle.tables.specs.Codes.{codeAt, slowDecay, fastDecay, slowGain, kneeTable, floorTable, fastGain, leakOf, snrOffset, fineOf, snrOf, codedOf};
-ghost use Rattle.tables.specs.Pointers.{tableOf};
+ghost use Rattle.tables.specs.Pointers.{pointersBy, tableOf};
 ghost use Rattle.tables.specs.Fits.{upto, lentFits, tablesFit, deltaFits};
 
 // The number of a bin. A bin becomes a band, and a band a bin, only by the rule of the bands' first bins.
@@ -14,6 +14,13 @@ pub struct Bin(pub usize);
 
 // The number of a band.
 pub struct Band(pub usize);
+
+// The slots: 0 to 4 are the full bandwidth channels, then come coupling, and LFE, the last.
+pub const SLOTS: usize = 7;
+
+pub const CPL: usize = 5;
+
+pub const LFE: usize = 6;
 
 // The delta segments, deltoffst, deltlen and deltba: the first `count` of each array.
 pub struct Delta {
@@ -327,6 +334,16 @@ const HEBAP: [u8; 64] = [
     19,
     19,
 ];
+
+// Which pointers a flag asks for: hebap where it is set.
+pub fn pointers_by(high: bool) -> Pointers
+    ensures { λ r. ⌜ r ≡ pointersBy high ⌝ }
+{
+    if high {
+        return Pointers::Hebap;
+    }
+    Pointers::Bap
+}
 
 // The pointers by address.
 pub fn table_of(which: Pointers) -> [u8; 64]

@@ -12,7 +12,7 @@ returns c =
     let p = c .before in
     let a = p .before .before .before .before .before .before .args in
     c .allocate .ensures
-    ∙ (λ j. allocateOf (now (a .exp)) (a .start .0) (a .end .0) (p .before .before .before .codes-of .ensures j) (p .before .before .leak-of .ensures j) (p .before .delta-of .ensures j) (p .pointers-of .ensures j) (now (a .hearing)) (now (a .log-add)))
+    ∙ (λ j. allocateOf (now (a .exp)) (a .start .0) (a .end .0) (p .before .before .before .codes-of .ensures j) (p .before .before .leak-of .ensures j) (p .before .delta-of .ensures j) (p .pointers-by .ensures j) (now (a .hearing)) (now (a .log-add)))
 
 pub channel-of-spec : {M : Type 1} → statement M
 channel-of-spec =

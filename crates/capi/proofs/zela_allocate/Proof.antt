@@ -16,7 +16,7 @@ returns c =
     let l = d .before in
     let k = l .before in
     let a = k .before .before .before .args in
-    let asked = allocated-alike (now (a .exponents)) (a .start) (a .end) (now (a .hearing)) (now (a .log-add)) (k .codes-from .ensures) (l .leak-from .ensures) (d .delta-from .ensures) (w .pointers-from .ensures) in
+    let asked = allocated-alike (now (a .exponents)) (a .start) (a .end) (now (a .hearing)) (now (a .log-add)) (k .codes-from .ensures) (l .leak-from .ensures) (d .delta-from .ensures) (w .pointers-by .ensures) in
     running-as (r .allocate .ensures ∙ asked) (c .ended .ensures)
 
 pub zela-allocate-spec : {M : Type 1} → statement M
