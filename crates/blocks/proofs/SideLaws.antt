@@ -22,41 +22,41 @@ use Rattle.syntax.specs.Reads.{Standing, standing, seenOf, readerOf, shown, rea
 use Rattle.syntax.proofs.Ends.{next-is, next-on}
 use Rattle.syntax.proofs.ReadLaws.{next-taken}
 use Rattle.blocks.specs.declared.AllocState.{AllocState}
-use Rattle.blocks.specs.declared.Told.{Told}
+use Rattle.blocks.specs.declared.DeltaTold.{DeltaTold}
 use Rattle.blocks.specs.Block.{noDelta, segmentsAt}
-use Rattle.blocks.specs.Side.{withDeltas, withDelta, badCode, codeOf, deltaCodeOf, nsegAsk, offstAsk, lenAsk, baAsk, withSegment, reached, segmentOf, segmentsOf, deltaOf, slotDeltaOf, Stood, stoodOf, readDeltaOf, over, toldOf}
+use Rattle.blocks.specs.Side.{withDeltas, withDelta, badCode, deltbaeOf, deltaCodeOf, nsegAsk, offstAsk, lenAsk, baAsk, withSegment, reached, segmentOf, segmentsOf, deltaOf, slotDeltaOf, readDeltaOf, beside, deltaToldOf, Settled, settled, settledOf}
 
 -- the cases of a delta code
 module _ (d : Delta) (slot code : ℕ) (block0 : Bool) where
-  pub code-6 : 6 < slot → _≡_ {A = Ran Delta Unit} (record { outcome = refused (grounds 6 0); state = d }) (leaves d (codeOf d slot code block0))
-  unfolding codeOf
+  pub code-6 : 6 < slot → _≡_ {A = Ran Delta Unit} (record { outcome = refused (grounds 6 0); state = d }) (leaves d (deltbaeOf d slot code block0))
+  unfolding deltbaeOf
   code-6 h = rw (lt-ltb 6 slot h)
 
   module _ (h : slot ≤ 6) where
-    pub code-15 : badCode code block0 ≡ true → _≡_ {A = Ran Delta Unit} (record { outcome = refused (grounds 15 0); state = d }) (leaves d (codeOf d slot code block0))
-    unfolding codeOf
+    pub code-15 : badCode code block0 ≡ true → _≡_ {A = Ran Delta Unit} (record { outcome = refused (grounds 15 0); state = d }) (leaves d (deltbaeOf d slot code block0))
+    unfolding deltbaeOf
     code-15 b = rw (le-ltb 6 slot h, b)
 
     module _ (b : badCode code block0 ≡ false) where
-      pub code-2 : code ≡ 2 → (e : Delta) → e ≡ noDelta → _≡_ {A = Ran Delta Unit} (record { outcome = taken tt; state = e }) (leaves d (codeOf d slot code block0))
-      unfolding codeOf
+      pub code-2 : code ≡ 2 → (e : Delta) → e ≡ noDelta → _≡_ {A = Ran Delta Unit} (record { outcome = taken tt; state = e }) (leaves d (deltbaeOf d slot code block0))
+      unfolding deltbaeOf
       code-2 k e n = rw (le-ltb 6 slot h, b, eq-eqb code 2 k) (λ i. record { outcome = taken tt; state = n i })
 
-      pub code-kept : (code ≡ 2 → ⊥) → _≡_ {A = Ran Delta Unit} (record { outcome = taken tt; state = d }) (leaves d (codeOf d slot code block0))
-      unfolding codeOf
+      pub code-kept : (code ≡ 2 → ⊥) → _≡_ {A = Ran Delta Unit} (record { outcome = taken tt; state = d }) (leaves d (deltbaeOf d slot code block0))
+      unfolding deltbaeOf
       code-kept k = rw (le-ltb 6 slot h, b, ne-eqb code 2 k)
 
 -- what follows a reader with something beside it
-over-then : {A B C : Type 0} (r : Ran Standing A) (b : B) (next : B → Standing → Ran Standing C) → thenRun (over r b) next ≡ thenRun r (λ _ st. next b st)
-over-then {A} {B} {C} r b next = go (r .outcome)
+beside-then : {A B C : Type 0} (r : Ran Standing A) (b : B) (next : B → Standing → Ran Standing C) → thenRun (beside r b) next ≡ thenRun r (λ _ st. next b st)
+beside-then {A} {B} {C} r b next = go (r .outcome)
   where
     go : (o : Outcome A) → follow (andThen o (λ _. taken b)) (r .state) next ≡ follow o (r .state) (λ _ st. next b st)
     go (taken a) = refl
     go (refused g) = refl
 
 -- a reader's value, put beside it
-over-is : {B : Type 0} (r : Ran Standing ℕ) (f : ℕ → B) → over r (f (shown (r .outcome))) ≡ thenRun r (λ v st. reached (f v) st)
-over-is {B} r f = go (r .outcome)
+beside-is : {B : Type 0} (r : Ran Standing ℕ) (f : ℕ → B) → beside r (f (shown (r .outcome))) ≡ thenRun r (λ v st. reached (f v) st)
+beside-is {B} r f = go (r .outcome)
   where
     go : (o : Outcome ℕ) → _≡_ {A = Ran Standing B} (record { outcome = andThen o (λ _. taken (f (shown o))); state = r .state })
         (follow o (r .state) (λ v st. reached (f v) st))
@@ -85,20 +85,20 @@ module _ (frame : List ℕ) where
     -- three elements of the sticky reader are a segment
     pub segment-is : (d e : Delta) (r a b c : Ran Standing ℕ) → a ≡ nextOf frame (offstAsk slot) r → b ≡ nextOf frame (lenAsk slot) a
         → c ≡ nextOf frame (baAsk slot) b → e ≡ withSegment d (shown (a .outcome)) (shown (b .outcome)) (shown (c .outcome))
-        → over c e ≡ thenRun (over r d) (λ x st. segmentOf frame slot x st)
+        → beside c e ≡ thenRun (beside r d) (λ x st. segmentOf frame slot x st)
     unfolding segmentOf
     segment-is d e r a b c p q s t =
         let o = shown (a .outcome) in
         let l = shown (b .outcome) in
-        ap (λ (x : Delta). over c x) t
-        ∙ over-is c (withSegment d o l)
+        ap (λ (x : Delta). beside c x) t
+        ∙ beside-is c (withSegment d o l)
         ∙ ap (λ (x : Ran Standing ℕ). thenRun x (λ v st. reached (withSegment d o l v) st)) s
         ∙ then-next (baAsk slot) b (λ m v st. reached (withSegment d o m v) st)
         ∙ ap (λ (x : Ran Standing ℕ). thenRun x (third d o)) q
         ∙ then-next (lenAsk slot) a (third d)
         ∙ ap (λ (x : Ran Standing ℕ). thenRun x (second d)) p
         ∙ then-next (offstAsk slot) r (λ _. second d)
-        ∙ sym (over-then r d (λ x st. thenRun (readOf frame st (offstAsk slot)) (second x)))
+        ∙ sym (beside-then r d (λ x st. thenRun (readOf frame st (offstAsk slot)) (second x)))
 
     -- one turn: one segment more
     pub segments-again : (k : ℕ) (r t : Ran Standing Delta) → t ≡ segmentsOf frame slot k r
@@ -116,7 +116,7 @@ module _ (frame : List ℕ) where
 
     -- the segments that deltnseg announces
     pub delta-is : (r : Ran Standing ℕ) (st : Standing) → r ≡ readOf frame st (nsegAsk slot)
-        → segmentsOf frame slot (shown (r .outcome) + 1) (over r noDelta) ≡ deltaOf frame slot st
+        → segmentsOf frame slot (shown (r .outcome) + 1) (beside r noDelta) ≡ deltaOf frame slot st
     unfolding deltaOf
     delta-is r st e = counted (r .outcome) ∙ ap (λ (x : Ran Standing ℕ). thenRun x (λ n st₁. segmentsOf frame slot (n + 1) (reached noDelta st₁))) e
       where
@@ -154,18 +154,18 @@ module _ (before d : Delta) (a : Put) (v : ℕ) where
 -- the two ways of a reading
 module _ (frame : List ℕ) (st : Standing) (before : Delta) (slot : ℕ) where
   pub delta-6 : 6 < slot
-      → _≡_ {A = Ran (Stood Delta) Unit} (record { outcome = refused (grounds 6 (st .place .pos)); state = record { standing = st; state = before } })
-      (stoodOf before (slotDeltaOf frame st slot))
+      → _≡_ {A = Ran (Settled Delta) Unit} (record { outcome = refused (grounds 6 (st .place .pos)); state = settled st before })
+      (settledOf before (slotDeltaOf frame st slot))
   unfolding slotDeltaOf
   delta-6 h = rw (lt-ltb 6 slot h)
 
-  pub delta-done : slot ≤ 6 → (r : Ran Standing Delta) → r ≡ deltaOf frame slot st → (t : Told) → toldOf t ≡ leaves before (r .outcome)
-      → _≡_ {A = Ran (Stood Delta) Unit} (record { outcome = doneOf (t .answer); state = record { standing = r .state; state = t .delta } })
-      (stoodOf before (slotDeltaOf frame st slot))
+  pub delta-done : slot ≤ 6 → (r : Ran Standing Delta) → r ≡ deltaOf frame slot st → (t : DeltaTold) → deltaToldOf t ≡ leaves before (r .outcome)
+      → _≡_ {A = Ran (Settled Delta) Unit} (record { outcome = doneOf (t .answer); state = settled (r .state) (t .delta) })
+      (settledOf before (slotDeltaOf frame st slot))
   unfolding slotDeltaOf
   delta-done h r e t k =
       rw (le-ltb 6 slot h)
-      ((λ i. record { outcome = k i .outcome; state = record { standing = r .state; state = k i .state } }) ∙ ap (λ x. stoodOf before x) e)
+      ((λ i. record { outcome = k i .outcome; state = settled (r .state) (k i .state) }) ∙ ap (λ x. settledOf before x) e)
 
 -- a call over a slot's segments, in the state that holds them: the slot has what the call leaves, and a refused call leaves all as it was
 module _ (st : AllocState) (slot : ℕ) where
@@ -173,12 +173,12 @@ module _ (st : AllocState) (slot : ℕ) where
   with-same : withDelta st slot (segmentsAt st slot) ≡ st
   with-same = ap (λ (ds : List Delta). withDeltas st ds) (set-getD (st .delta) slot noDelta)
 
-  pub code-in : (code : ℕ) (block0 : Bool) (r : Ran Delta Unit) → r ≡ leaves (segmentsAt st slot) (codeOf (segmentsAt st slot) slot code block0)
+  pub code-in : (code : ℕ) (block0 : Bool) (r : Ran Delta Unit) → r ≡ leaves (segmentsAt st slot) (deltbaeOf (segmentsAt st slot) slot code block0)
       → _≡_ {A = Ran AllocState Unit} (record { outcome = r .outcome; state = withDelta st slot (r .state) }) (deltaCodeOf st slot code block0)
   unfolding deltaCodeOf
   code-in code block0 r e =
       ap (λ (x : Ran Delta Unit). record { outcome = x .outcome; state = withDelta st slot (x .state) }) e
-      ∙ go (codeOf (segmentsAt st slot) slot code block0)
+      ∙ go (deltbaeOf (segmentsAt st slot) slot code block0)
     where
       go : (o : Outcome Delta) → _≡_ {A = Ran AllocState Unit}
           (record { outcome = leaves (segmentsAt st slot) o .outcome; state = withDelta st slot (leaves (segmentsAt st slot) o .state) })
@@ -186,17 +186,17 @@ module _ (st : AllocState) (slot : ℕ) where
       go (taken d) = refl
       go (refused g) = λ i. record { outcome = refused g; state = with-same i }
 
-  pub read-in : (frame : List ℕ) (s : Standing) (r : Ran (Stood Delta) Unit) → r ≡ stoodOf (segmentsAt st slot) (slotDeltaOf frame s slot)
-      → _≡_ {A = Ran (Stood AllocState) Unit}
-      (record { outcome = r .outcome; state = record { standing = r .state .standing; state = withDelta st slot (r .state .state) } })
+  pub read-in : (frame : List ℕ) (s : Standing) (r : Ran (Settled Delta) Unit) → r ≡ settledOf (segmentsAt st slot) (slotDeltaOf frame s slot)
+      → _≡_ {A = Ran (Settled AllocState) Unit}
+      (record { outcome = r .outcome; state = settled (r .state .standing) (withDelta st slot (r .state .state)) })
       (readDeltaOf frame s st slot)
   unfolding readDeltaOf
   read-in frame s r e =
-      ap (λ (x : Ran (Stood Delta) Unit). record { outcome = x .outcome; state = record { standing = x .state .standing; state = withDelta st slot (x .state .state) } }) e
+      ap (λ (x : Ran (Settled Delta) Unit). record { outcome = x .outcome; state = settled (x .state .standing) (withDelta st slot (x .state .state)) }) e
       ∙ go (slotDeltaOf frame s slot .outcome) (slotDeltaOf frame s slot .state)
     where
-      go : (o : Outcome Delta) (after : Standing) → _≡_ {A = Ran (Stood AllocState) Unit}
-          (record { outcome = leaves (segmentsAt st slot) o .outcome; state = record { standing = after; state = withDelta st slot (leaves (segmentsAt st slot) o .state) } })
-          (stoodOf st (follow o after (λ d st₁. reached (withDelta st slot d) st₁)))
+      go : (o : Outcome Delta) (after : Standing) → _≡_ {A = Ran (Settled AllocState) Unit}
+          (record { outcome = leaves (segmentsAt st slot) o .outcome; state = settled after (withDelta st slot (leaves (segmentsAt st slot) o .state)) })
+          (settledOf st (follow o after (λ d st₁. reached (withDelta st slot d) st₁)))
       go (taken d) after = refl
-      go (refused g) after = λ i. record { outcome = refused g; state = record { standing = after; state = with-same i } }
+      go (refused g) after = λ i. record { outcome = refused g; state = settled after (with-same i) }

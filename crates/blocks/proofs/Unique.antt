@@ -12,9 +12,9 @@ use Rattle.bits.specs.declared.Put.{Put}
 use Rattle.bits.specs.Answers.{doneOf}
 use Rattle.bits.proofs.Unique.{doneBack, done-back}
 use Rattle.tables.specs.declared.Delta.{Delta}
-use Rattle.blocks.specs.declared.Told.{Told}
+use Rattle.blocks.specs.declared.DeltaTold.{DeltaTold}
 use Rattle.blocks.specs.declared.DeltaRead.{DeltaRead}
-use Rattle.blocks.specs.Side.{Stood, toldOf}
+use Rattle.blocks.specs.Side.{deltaToldOf, Settled}
 use Rattle.blocks.proofs.allocate_block.Kinds as allocate-block-kinds
 use Rattle.blocks.proofs.allocate_block.Reads as allocate-block-reads
 use Rattle.blocks.proofs.delta_code.Kinds as delta-code-kinds
@@ -23,13 +23,13 @@ use Rattle.blocks.proofs.read_delta.Kinds as read-delta-kinds
 use Rattle.blocks.proofs.read_delta.Reads as read-delta-reads
 
 -- each answer's meaning leads back to it
-abbrev pub toldBack : Ran Delta Unit → Told
+abbrev pub toldBack : Ran Delta Unit → DeltaTold
 toldBack w = record { answer = doneBack (w .outcome); delta = w .state }
 
-pub told-back : (r : Told) → toldBack (toldOf r) ≡ r
+pub told-back : (r : DeltaTold) → toldBack (deltaToldOf r) ≡ r
 told-back r = ap (λ (a : Put). record { answer = a; delta = r .delta }) (done-back (r .answer))
 
-abbrev readBack : Ran (Stood Delta) Unit → DeltaRead
+abbrev readBack : Ran (Settled Delta) Unit → DeltaRead
 readBack w = record { answer = doneBack (w .outcome); place = w .state .standing .place; delta = w .state .state }
 
 -- any two results that a contract allows are equal; the contracts are read from the code
@@ -40,7 +40,7 @@ allocate-block-one κs a x y s t p q =
     (sym (done-back x) ∙ ap (λ w. doneBack (w .outcome)) e ∙ done-back y, ap (λ w. w .state) e)
 
 pub delta-code-one : Decides 0 delta-code-kinds.ps delta-code-kinds.r delta-code-reads.Post
-delta-code-one κs a x y s t = one-answer toldOf toldBack told-back x y
+delta-code-one κs a x y s t = one-answer deltaToldOf toldBack told-back x y
 
 pub read-delta-one : (κs : Lfts 2) (a : Dens κs read-delta-kinds.ps) (x y : DeltaRead) (s t : AtExit (endedOf 2 read-delta-kinds.ps read-delta-kinds.r) κs)
     → read-delta-reads.Post κs a x s → read-delta-reads.Post κs a y t → (x ≡ y) × (now (s .1 .0) ≡ now (t .1 .0))

@@ -17,8 +17,8 @@ use Rattle.syntax.specs.Reads.{Standing, standing, readerOf, readOf}
 use Rattle.tables.specs.declared.Delta.{Delta}
 use Rattle.tables.specs.Slots.{noSlot, isCoupling}
 use Rattle.blocks.specs.declared.AllocState.{AllocState}
-use Rattle.blocks.specs.declared.Told.{Told}
-use Rattle.blocks.specs.declared.Gathered.{Gathered}
+use Rattle.blocks.specs.declared.DeltaTold.{DeltaTold}
+use Rattle.blocks.specs.declared.SoFar.{SoFar}
 use Rattle.blocks.specs.declared.DeltaRead.{DeltaRead}
 use Rattle.blocks.specs.Block.{noDelta, segmentsAt}
 
@@ -51,15 +51,15 @@ abbrev pub badCode : ℕ → Bool → Bool
 badCode code block0 = ltb 2 code || (eqb code 0 && block0)
 
 -- the segments of a slot after a deltbae code: 6 for the slot, then 15; 2 is no segments, 0 and 1 leave them
-unfoldable pub codeOf : Delta → ℕ → ℕ → Bool → Outcome Delta
-codeOf d slot code block0 =
+unfoldable pub deltbaeOf : Delta → ℕ → ℕ → Bool → Outcome Delta
+deltbaeOf d slot code block0 =
     refuseIf (noSlot slot) 6 0
     (refuseIf (badCode code block0) 15 0
     (taken (cond (eqb code 2) noDelta d)))
 
 -- a deltbae code over the state, of which the slot's segments alone may change: "changes only on success"
 unfoldable pub deltaCodeOf : AllocState → ℕ → ℕ → Bool → Ran AllocState Unit
-deltaCodeOf st slot code block0 = leaves st (andThen (codeOf (segmentsAt st slot) slot code block0) (λ d. taken (withDelta st slot d)))
+deltaCodeOf st slot code block0 = leaves st (andThen (deltbaeOf (segmentsAt st slot) slot code block0) (λ d. taken (withDelta st slot d)))
 
 -- an element of a slot's segments, logged with the slot for its index; coupling has names of its own
 abbrev pub fieldAsk : ℕ → ℕ → ℕ → ℕ → Ask
@@ -110,27 +110,31 @@ slotDeltaOf frame st slot =
     thenRun {A = Unit} (settle st st (refuseIf (noSlot slot) 6 (st .place .pos) (taken tt))) (λ _ st₁. deltaOf frame slot st₁)
 
 -- what a reading leaves behind: the cursor's numbers and the log, and what is kept of it
-pub record Stood (S : Type 0) : Type 0 where
+pub record Settled (S : Type 0) : Type 0 where
   pub standing : Standing
   pub state : S
 
-abbrev pub stoodOf : {S : Type 0} → S → Ran Standing S → Ran (Stood S) Unit
-stoodOf s r = record { outcome = leaves s (r .outcome) .outcome; state = record { standing = r .state; state = leaves s (r .outcome) .state } }
+abbrev pub settled : {S : Type 0} → Standing → S → Settled S
+settled st s = record { standing = st; state = s }
+
+-- what it was taken with is kept, and s where it is refused
+abbrev pub settledOf : {S : Type 0} → S → Ran Standing S → Ran (Settled S) Unit
+settledOf s r = record { outcome = leaves s (r .outcome) .outcome; state = settled (r .state) (leaves s (r .outcome) .state) }
 
 -- a reading of segments over the state, of which the slot's alone may change
-unfoldable pub readDeltaOf : List ℕ → Standing → AllocState → ℕ → Ran (Stood AllocState) Unit
-readDeltaOf frame st state slot = stoodOf state (thenRun (slotDeltaOf frame st slot) (λ d st₁. reached (withDelta state slot d) st₁))
+unfoldable pub readDeltaOf : List ℕ → Standing → AllocState → ℕ → Ran (Settled AllocState) Unit
+readDeltaOf frame st state slot = settledOf state (thenRun (slotDeltaOf frame st slot) (λ d st₁. reached (withDelta state slot d) st₁))
 
 -- what a reader means that gathers segments
-abbrev pub over : {A B : Type 0} → Ran Standing A → B → Ran Standing B
-over r b = record { outcome = andThen (r .outcome) (λ _. taken b); state = r .state }
+abbrev pub beside : {A B : Type 0} → Ran Standing A → B → Ran Standing B
+beside r b = record { outcome = andThen (r .outcome) (λ _. taken b); state = r .state }
 
-abbrev pub gatheredOf : Gathered → List ℕ → Ran Standing Delta
-gatheredOf w log = over (readerOf (w .reader) log) (w .delta)
+abbrev pub soFarOf : SoFar → List ℕ → Ran Standing Delta
+soFarOf w log = beside (readerOf (w .reader) log) (w .delta)
 
 -- what an answer means, with the segments and all that stands after it
-abbrev pub toldOf : Told → Ran Delta Unit
-toldOf r = record { outcome = doneOf (r .answer); state = r .delta }
+abbrev pub deltaToldOf : DeltaTold → Ran Delta Unit
+deltaToldOf r = record { outcome = doneOf (r .answer); state = r .delta }
 
-abbrev pub deltaReadOf : DeltaRead → List ℕ → Ran (Stood Delta) Unit
-deltaReadOf r log = record { outcome = doneOf (r .answer); state = record { standing = standing (r .place) log; state = r .delta } }
+abbrev pub deltaReadOf : DeltaRead → List ℕ → Ran (Settled Delta) Unit
+deltaReadOf r log = record { outcome = doneOf (r .answer); state = settled (standing (r .place) log) (r .delta) }

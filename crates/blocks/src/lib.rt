@@ -30,7 +30,7 @@ ghost use Rattle.tables.specs.Pointers.{pointersBy};
 ghost use Rattle.tables.specs.Slots.{slotCount, isCoupling};
 ghost use Rattle.alloc.specs.Answers.{endedOf, allocatedOf, allocateOf};
 ghost use Rattle.blocks.specs.Block.{baiFits, leakFits, ifSent, sentFit, othersFit, deltasFit, codesFit, quietFrom, quiet, noDelta, codesAt, leakAt, deltaAt, slotBy, asked, slotOf, blockOf, filledSlots, silence, slotsFrom, allocateBlockOf};
-ghost use Rattle.blocks.specs.Side.{badCode, codeOf, fieldAsk, withSegment, segmentOf, segmentsOf, slotDeltaOf, stoodOf, over, gatheredOf, toldOf, deltaReadOf};
+ghost use Rattle.blocks.specs.Side.{badCode, deltbaeOf, fieldAsk, withSegment, segmentOf, segmentsOf, slotDeltaOf, beside, soFarOf, deltaToldOf, deltaReadOf, settledOf};
 
 // The side information that a frame's blocks carry on, by its names in TS, not yet decoded. Beside what may be unsent stands whether it
 // was sent: the five parameters, csnroffst, and the coupling leak. The segments are those of each slot.
@@ -429,7 +429,7 @@ pub fn allocate_block(
 }
 
 // What a delta code or a reading of segments comes to, and the slot's segments after it.
-pub struct Told {
+pub struct DeltaTold {
     pub answer: Put,
     pub delta: Delta,
 }
@@ -442,7 +442,7 @@ pub struct DeltaRead {
 }
 
 // A reader, and the segments that it has read so far.
-struct Gathered {
+struct SoFar {
     reader: Reader,
     delta: Delta,
 }
@@ -459,19 +459,19 @@ fn is_bad_code(code: u32, block0: bool) -> bool
 }
 
 // A deltbae code that is refused: the segments stay.
-fn refused_code(why: Why, delta: Delta) -> Told
-    ensures { λ r. ⌜ toldOf r ≡ record { outcome = refusedOf (grounds (numberOf why) 0); state = delta } ⌝ }
+fn refused_code(why: Why, delta: Delta) -> DeltaTold
+    ensures { λ r. ⌜ deltaToldOf r ≡ record { outcome = refusedOf (grounds (numberOf why) 0); state = delta } ⌝ }
 {
     let r = Refusal { why: why, bit: 0 };
-    Told {
+    DeltaTold {
         answer: Put::Refused(r),
         delta: delta,
     }
 }
 
 // A slot's deltbae code: 6 for the slot, then 15; 2 ends its segments, 0 and 1 leave them.
-pub fn delta_code(delta: Delta, slot: usize, code: u32, block0: bool) -> Told
-    ensures { λ r. ⌜ toldOf r ≡ leaves delta (codeOf delta slot code block0) ⌝ }
+pub fn delta_code(delta: Delta, slot: usize, code: u32, block0: bool) -> DeltaTold
+    ensures { λ r. ⌜ deltaToldOf r ≡ leaves delta (deltbaeOf delta slot code block0) ⌝ }
 {
     if slot > LFE {
         return refused_code(Why::BadArgument, delta);
@@ -481,12 +481,12 @@ pub fn delta_code(delta: Delta, slot: usize, code: u32, block0: bool) -> Told
         return refused_code(Why::BadDelta, delta);
     }
     if code == 2 {
-        return Told {
+        return DeltaTold {
             answer: Put::Done,
             delta: none,
         };
     }
-    Told {
+    DeltaTold {
         answer: Put::Done,
         delta: delta,
     }
@@ -537,9 +537,9 @@ fn put_segment(delta: Delta, offset: u8, len: u8, ba: u8) -> Delta
 }
 
 // Reads one segment more.
-fn segment(frame: &[u8], log: &mut [u32], w: Gathered, slot: usize) -> Gathered
+fn segment(frame: &[u8], log: &mut [u32], w: SoFar, slot: usize) -> SoFar
     requires { ⌜ (slot < slotCount) × (w .delta .count < 8) ⌝ }
-    ensures { λ r. ⌜ (gatheredOf r (now (log .exit)) ≡ thenRun (gatheredOf w (now (log .entry))) (λ d st. segmentOf (now (frame .entry)) slot d st)) × (r .delta .count ≡ w .delta .count + 1) ⌝ }
+    ensures { λ r. ⌜ (soFarOf r (now (log .exit)) ≡ thenRun (soFarOf w (now (log .entry))) (λ d st. segmentOf (now (frame .entry)) slot d st)) × (r .delta .count ≡ w .delta .count + 1) ⌝ }
 {
     let r = w.reader;
     let d = w.delta;
@@ -562,19 +562,19 @@ fn segment(frame: &[u8], log: &mut [u32], w: Gathered, slot: usize) -> Gathered
         field(names::DELTBA, names::CPLDELTBA, 3, slot),
     );
     let e = put_segment(d, byte(o.value), byte(l.value), byte(b.value));
-    Gathered {
+    SoFar {
         reader: b,
         delta: e,
     }
 }
 
 // Reads n segments.
-fn segments(frame: &[u8], log: &mut [u32], reader: Reader, slot: usize, n: usize) -> Gathered
+fn segments(frame: &[u8], log: &mut [u32], reader: Reader, slot: usize, n: usize) -> SoFar
     requires { ⌜ (slot < slotCount) × (n ≤ 8) ⌝ }
-    ensures { λ r. ⌜ gatheredOf r (now (log .exit)) ≡ segmentsOf (now (frame .entry)) slot n (over (readerOf reader (now (log .entry))) noDelta) ⌝ }
+    ensures { λ r. ⌜ soFarOf r (now (log .exit)) ≡ segmentsOf (now (frame .entry)) slot n (beside (readerOf reader (now (log .entry))) noDelta) ⌝ }
 {
     let none = no_delta();
-    let mut w = Gathered {
+    let mut w = SoFar {
         reader: reader,
         delta: none,
     };
@@ -587,19 +587,19 @@ fn segments(frame: &[u8], log: &mut [u32], reader: Reader, slot: usize, n: usize
 }
 
 // The segments that were read, or those of before where the reader was refused.
-fn kept(delta: Delta, w: Gathered) -> Told
-    ensures { λ r. ⌜ toldOf r ≡ leaves delta (andThen (seenOf (w .reader .answer) (w .reader .value)) (λ _. taken (w .delta))) ⌝ }
+fn kept(delta: Delta, w: SoFar) -> DeltaTold
+    ensures { λ r. ⌜ deltaToldOf r ≡ leaves delta (andThen (seenOf (w .reader .answer) (w .reader .value)) (λ _. taken (w .delta))) ⌝ }
 {
     let reader = w.reader;
     let answer = reader.answer;
     if let Put::Refused(r) = answer {
-        return Told {
+        return DeltaTold {
             answer: Put::Refused(r),
             delta: delta,
         };
     }
     let read = w.delta;
-    Told {
+    DeltaTold {
         answer: Put::Done,
         delta: read,
     }
@@ -613,7 +613,7 @@ pub fn read_delta(
     delta: Delta,
     slot: usize,
 ) -> DeltaRead
-    ensures { λ r. ⌜ deltaReadOf r (now (log .exit)) ≡ stoodOf delta (slotDeltaOf (now (frame .entry)) (standing place (now (log .entry))) slot) ⌝ }
+    ensures { λ r. ⌜ deltaReadOf r (now (log .exit)) ≡ settledOf delta (slotDeltaOf (now (frame .entry)) (standing place (now (log .entry))) slot) ⌝ }
 {
     if slot > LFE {
         let r = Refusal {

@@ -18,7 +18,7 @@ use Rattle.walks.specs.Walk.{State, state}
 use Rattle.exponents.specs.declared.ExpSet.{ExpSet}
 use Rattle.exponents.specs.Reads.{Left, left}
 use Rattle.blocks.specs.declared.AllocState.{AllocState}
-use Rattle.blocks.specs.Side.{Stood}
+use Rattle.blocks.specs.Side.{Settled}
 use Rattle.convention.specs.Replies.{Told, told, toldOf, Reply, reply, replyOf}
 use Rattle.capi.specs.Standings.{stood, stoodOf, moved, movedOf, advanced, advancedOf}
 use Rattle.capi.specs.Walks.{carried, carriedOf}
@@ -51,7 +51,7 @@ module _ {o : Outcome Unit} {st : AllocState} {p : Ran AllocState Unit} (before 
   pub kept-as : {k b : ℕ} → told k b ≡ toldOf o → kept k b after ≡ keptOf before p
   kept-as t = ap₂ (λ (w : Told) (rows : List (List ℕ)). record { told = w; rows = rows }) t laid ∙ ap (keptOf before) e
 
-module _ {o : Outcome Unit} {place : Place} {log : List ℕ} {st : AllocState} {p : Ran (Stood AllocState) Unit} (before : List (List ℕ)) {after : List (List ℕ)} (laid : after ≡ rowsAfter before st) (e : record { outcome = o; state = record { standing = standing place log; state = st } } ≡ p) where
+module _ {o : Outcome Unit} {place : Place} {log : List ℕ} {st : AllocState} {p : Ran (Settled AllocState) Unit} (before : List (List ℕ)) {after : List (List ℕ)} (laid : after ≡ rowsAfter before st) (e : record { outcome = o; state = record { standing = standing place log; state = st } } ≡ p) where
   pub gathered-as : {k b : ℕ} → told k b ≡ toldOf o → gathered k b (place .pos) (place .count) log after ≡ gatheredOf before p
   gathered-as t =
       ap₂ (λ (w : Told) (rows : List (List ℕ)). record { moved = record { told = w; pos = place .pos; count = place .count; log = log }; rows = rows }) t laid

@@ -11,7 +11,7 @@ use Rattle.refusal.specs.Refusals.{Ran}
 use Rattle.tables.specs.declared.Delta.{Delta}
 use Rattle.alloc.specs.Table.{from, table}
 use Rattle.blocks.specs.declared.AllocState.{AllocState}
-use Rattle.blocks.specs.Side.{Stood}
+use Rattle.blocks.specs.Side.{Settled}
 use Rattle.convention.specs.Replies.{Told, told, toldOf}
 use Rattle.capi.specs.Standings.{Moved, moved, movedOf}
 use Rattle.capi.specs.Channels.{deltaFrom}
@@ -86,6 +86,6 @@ pub record Gathered : Type 0 where
 abbrev pub gathered : ℕ → ℕ → ℕ → ℕ → List ℕ → List (List ℕ) → Gathered
 gathered k b at count log rows = record { moved = moved k b at count log; rows = rows }
 
-abbrev pub gatheredOf : List (List ℕ) → Ran (Stood AllocState) Unit → Gathered
+abbrev pub gatheredOf : List (List ℕ) → Ran (Settled AllocState) Unit → Gathered
 gatheredOf rows r =
     record { moved = movedOf (record { outcome = r .outcome; state = r .state .standing }); rows = rowsAfter rows (r .state .state) }

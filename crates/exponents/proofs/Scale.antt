@@ -8,7 +8,7 @@ use native.Mathlib.Omega.{arith}
 use lib.Dec.{ltb}
 use lib.ListN.{length, set, replicate}
 use lib.Seq.{sets}
-use Rattle.refusal.specs.Refusals.{Outcome, taken, refused, refuseIf, Ran, follow}
+use Rattle.refusal.specs.Refusals.{Outcome, taken, refused, refuseIf, Ran, leaves, follow}
 use Rattle.syntax.specs.Reads.{Standing, readOf}
 use Rattle.refusal.proofs.TestLaws.{or-false}
 use Rattle.syntax.proofs.ReadLaws.{read-taken}
@@ -16,7 +16,7 @@ use Rattle.exponents.specs.declared.ExpSet.{ExpSet}
 use Rattle.tables.specs.Bands.{zeros}
 use Rattle.tables.specs.Slots.{isCoupling}
 use Rattle.exponents.specs.Set.{sizeOf, groupCount, allDigits, running, offScale, outside, spread, firstOf, leading, outputs, baseOf, binsOf}
-use Rattle.exponents.specs.Reads.{fitOf, absAsk, groupAsk, groupsOf, setOf, setIn, readExponentsOf}
+use Rattle.exponents.specs.Reads.{fitOf, absAsk, groupAsk, groupsOf, setOf, noSet, readExponentsOf}
 use Rattle.exponents.proofs.Lists.{on-scale}
 use Rattle.exponents.proofs.Turns.{groups-inside}
 
@@ -66,7 +66,7 @@ low-zeros = low-replicate 256 0 (omega arith)
 
 -- a set after a call
 low-then : {A : Type 0} (o : Outcome A) (st : Standing) (next : A → Standing → Ran Standing ExpSet)
-    → ((a : A) → o ≡ taken a → Low (setIn (next a st .outcome) .exp)) → Low (setIn (follow o st next .outcome) .exp)
+    → ((a : A) → o ≡ taken a → Low (leaves noSet (next a st .outcome) .state .exp)) → Low (leaves noSet (follow o st next .outcome) .state .exp)
 low-then (taken a) st next f = f a refl
 low-then (refused g) st next f = low-zeros
 
@@ -85,8 +85,8 @@ exponents-low frame st slot strategy start end =
     all abs = groupsOf frame (groupAsk slot) (firstOf slot abs) (groupCount slot g start end) (readOf frame st (absAsk slot) .state)
 
     last : (abs : ℕ) (vs : List ℕ) → readOf frame st (absAsk slot) .outcome ≡ taken abs → all abs .outcome ≡ taken vs → (t : Bool)
-        → Low (setIn (refuseIf t 9 (all abs .state .place .pos)
-        (taken (record { exp = binsOf (baseOf slot start) (outputs slot g abs vs); start = start; end = end }))) .exp)
+        → Low (leaves noSet (refuseIf t 9 (all abs .state .place .pos)
+        (taken (record { exp = binsOf (baseOf slot start) (outputs slot g abs vs); start = start; end = end }))) .state .exp)
     last abs vs f h true = low-zeros
     last abs vs f h false =
         let b : abs < 16 = read-taken frame st (absAsk slot) abs f .below in

@@ -16,7 +16,7 @@ use Rattle.syntax.specs.Reads.{Standing, readOf}
 use Rattle.exponents.specs.declared.ExpSet.{ExpSet}
 use Rattle.tables.specs.Bands.{zeros}
 use Rattle.exponents.specs.Set.{sizeOf, groupCount, digits, allDigits, running, outside, spread, firstOf, leading, outputs, baseOf, binsOf}
-use Rattle.exponents.specs.Reads.{unfit, absAsk, groupAsk, groupOf, groupsOf, setOf, leaves, readExponentsOf}
+use Rattle.exponents.specs.Reads.{unfit, absAsk, groupAsk, groupOf, groupsOf, setOf, leftOf, readExponentsOf}
 use Rattle.exponents.specs.Turns.{Laid, laid, lastOf, begunOf, onward, unpackOn, groupOn, groupsOn, firstOn, finishOn}
 use Rattle.exponents.proofs.Lists.{sets-append, three-length, digits-more, running-append, last-append, spread-append, outside-append}
 
@@ -166,13 +166,13 @@ module _ (frame : List ℕ) (st : Standing) (slot strategy start end : ℕ) (fit
           (refuseIf (ltb (baseOf slot start + length (outputs slot g abs vs)) end) 9 (st₂ .place .pos)
           (taken (record { exp = binsOf (baseOf slot start) (outputs slot g abs vs); start = start; end = end })))
 
-      last : (abs : ℕ) (o : Outcome (List ℕ)) (s : Standing) → finishOn start end (held slot g start abs (ends s o)) ≡ leaves (follow o s (short abs))
+      last : (abs : ℕ) (o : Outcome (List ℕ)) (s : Standing) → finishOn start end (held slot g start abs (ends s o)) ≡ leftOf (follow o s (short abs))
       last abs (taken vs) s = refl
       last abs (refused x) s = refl
 
       go : (o : Outcome ℕ) (s : Standing)
           → finishOn start end (groupsOn frame (groupAsk slot) g n (follow o s (λ abs st₁. ends st₁ (taken (begunOf slot start zeros abs)))))
-          ≡ leaves (follow o s (λ abs st₁. thenRun (groupsOf frame (groupAsk slot) (firstOf slot abs) n st₁) (short abs)))
+          ≡ leftOf (follow o s (λ abs st₁. thenRun (groupsOf frame (groupAsk slot) (firstOf slot abs) n st₁) (short abs)))
       go (taken abs) s =
           ap (λ (l : Laid). finishOn start end (groupsOn frame (groupAsk slot) g n (ends s (taken l)))) (begun-is slot g start abs)
           ∙ ap (finishOn start end) (groups-on slot g start abs frame (groupAsk slot) n s)

@@ -7,7 +7,7 @@ use mathlib.Core.List.{List, [], _∷_, _++_}
 use lib.ListN.{length}
 use lib.IntN.{pos}
 use lib.Dec.{leb, ltb}
-use Rattle.refusal.specs.Refusals.{Outcome, taken, refused, refuseIf, andThen, Ran, ends, thenRun}
+use Rattle.refusal.specs.Refusals.{taken, refuseIf, Ran, ends, leaves, thenRun}
 use Rattle.bits.specs.Answers.{doneOf}
 use Rattle.syntax.specs.declared.Role.the-variants.{Plain}
 use Rattle.syntax.specs.declared.Ask.{Ask}
@@ -80,13 +80,10 @@ setOf frame st slot strategy start end =
 abbrev pub noSet : ExpSet
 noSet = record { exp = zeros; start = 0; end = 0 }
 
-abbrev pub setIn : Outcome ExpSet → ExpSet
-setIn (taken s) = s
-setIn (refused g) = noSet
-
-abbrev pub leaves : Ran Standing ExpSet → Ran Left Unit
-leaves r = record { outcome = andThen (r .outcome) (λ _. taken tt); state = left (r .state) (setIn (r .outcome)) }
+-- the set that was taken, and none where the reading is refused
+abbrev pub leftOf : Ran Standing ExpSet → Ran Left Unit
+leftOf r = record { outcome = leaves noSet (r .outcome) .outcome; state = left (r .state) (leaves noSet (r .outcome) .state) }
 
 -- what reading the exponents of a slot comes to
 abbrev pub readExponentsOf : List ℕ → Standing → ℕ → ℕ → ℕ → ℕ → Ran Left Unit
-readExponentsOf frame st slot strategy start end = leaves (setOf frame st slot strategy start end)
+readExponentsOf frame st slot strategy start end = leftOf (setOf frame st slot strategy start end)

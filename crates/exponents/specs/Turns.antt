@@ -13,7 +13,7 @@ use Rattle.syntax.specs.declared.Ask.{Ask}
 use Rattle.syntax.specs.Reads.{Standing, standing, readOf}
 use Rattle.exponents.specs.declared.Run.{Run}
 use Rattle.exponents.specs.Set.{digits, running, outside, spread, firstOf, leading, baseOf}
-use Rattle.exponents.specs.Reads.{Left, absAsk, leaves}
+use Rattle.exponents.specs.Reads.{Left, absAsk, leftOf}
 
 pub record Laid : Type 0 where
   pub last : ℕ
@@ -72,7 +72,7 @@ firstOn frame slot start exp st = thenRun (readOf frame st (absAsk slot)) (λ ab
 -- the set of what was laid: 9
 unfoldable pub finishOn : ℕ → ℕ → Ran Standing Laid → Ran Left Unit
 finishOn start end r =
-    leaves
+    leftOf
     (thenRun r (λ l st.
     ends st
     (refuseIf (ltb (l .next) end) 9 (st .place .pos)

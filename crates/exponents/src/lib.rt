@@ -22,7 +22,7 @@ ghost use Rattle.bits.specs.Answers.{doneOf};
 ghost use Rattle.syntax.specs.Reads.{standing, readerOf};
 ghost use Rattle.syntax.specs.Cursors.{moved};
 ghost use Rattle.exponents.specs.Set.{sizeOf, groupCount, digits, running, offScale, outside, spread};
-ghost use Rattle.exponents.specs.Reads.{exponentsOf, unfit, askOf, noSet, leaves, readExponentsOf};
+ghost use Rattle.exponents.specs.Reads.{exponentsOf, unfit, askOf, noSet, leftOf, readExponentsOf};
 ghost use Rattle.exponents.specs.Turns.{runOf, lastOf, begunOf, groupOn, groupsOn, firstOn, finishOn};
 
 // The slots by their names, in the type that a slot has here.
@@ -314,7 +314,7 @@ fn without(answer: Put, place: Place) -> Exponents
 
 // No set: it is refused where the cursor stands.
 fn unread(why: Why, place: Place) -> Exponents
-    ensures { λ r. ⌜ ((log : List ℕ) → exponentsOf r log ≡ leaves (ends (standing place log) (refused (grounds (numberOf why) (place .pos))))) ⌝ }
+    ensures { λ r. ⌜ ((log : List ℕ) → exponentsOf r log ≡ leftOf (ends (standing place log) (refused (grounds (numberOf why) (place .pos))))) ⌝ }
 {
     let r = Refusal {
         why,

@@ -9,7 +9,7 @@ use borrow.Author.Needs.{needs}
 use Rattle.syntax.specs.Reads.{standing, readerOf}
 use Rattle.syntax.proofs.Ends.{reader-is}
 use Rattle.blocks.specs.Block.{noDelta}
-use Rattle.blocks.specs.Side.{nsegAsk, segmentsOf, over}
+use Rattle.blocks.specs.Side.{nsegAsk, segmentsOf, beside}
 use Rattle.syntax.proofs.Ends.{asked}
 use Rattle.blocks.proofs.SideLaws.{delta-is, first-is, value-below, delta-6, delta-done}
 use Rattle.blocks.proofs.read_delta.Statement.{statement}
@@ -55,7 +55,7 @@ returns-2 c =
     ∙ first-is f (nsegAsk (a .slot)) st _ (reader-is (b .begin .result) (now (a .log)) (b .begin .ensures .0) (b .begin .ensures .1)) in
     delta-done f st (a .delta) (a .slot) (b .before .if1 .left) _
     (s .segments .ensures
-    ∙ ap (λ (x : ℕ). segmentsOf f (a .slot) (x + 1) (over (readerOf (n .next .result) (n .next .last .1 .0)) noDelta)) (n .next .ensures .1)
+    ∙ ap (λ (x : ℕ). segmentsOf f (a .slot) (x + 1) (beside (readerOf (n .next .result) (n .next .last .1 .0)) noDelta)) (n .next .ensures .1)
     ∙ delta-is f (a .slot) _ st nseg)
     (c .before .before .before .kept .result) (c .before .before .before .kept .ensures)
 

@@ -8,14 +8,14 @@ use denote.Ref.{now}
 use borrow.Author.Needs.{needs}
 use Rattle.tables.specs.declared.Delta.{Delta}
 use Rattle.syntax.specs.Reads.{readerOf}
-use Rattle.blocks.specs.Side.{segmentsOf, over, gatheredOf}
+use Rattle.blocks.specs.Side.{segmentsOf, beside, soFarOf}
 use Rattle.blocks.proofs.SideLaws.{segments-again}
 use Rattle.blocks.proofs.segments.Statement.{statement}
 use Rattle.blocks.proofs.segments.Tie as tie
 
 abbrev Inv-loop : tie.InvT-loop
 Inv-loop frame log₀ slot n w₀ k₀ log w k =
-    (k ≤ n) × (w .delta .count ≡ k) × (gatheredOf w log ≡ segmentsOf frame slot k (gatheredOf w₀ log₀)) × (length log ≡ length log₀)
+    (k ≤ n) × (w .delta .count ≡ k) × (soFarOf w log ≡ segmentsOf frame slot k (soFarOf w₀ log₀)) × (length log ≡ length log₀)
 
 abbrev μ-loop : tie.MeasureT-loop
 μ-loop frame log₀ slot n w₀ k₀ log w k = n - k
@@ -48,8 +48,8 @@ returns c =
     let a = l .before .before .before .before .args in
     let h : l .loop .k ≡ a .n = omega arith in
     l .loop .inv .2
-    ∙ ap (λ (x : ℕ). segmentsOf (now (a .frame)) (a .slot) x (over (readerOf (a .reader) (now (a .log))) (l .before .no-delta .result))) h
-    ∙ ap (λ (d : Delta). segmentsOf (now (a .frame)) (a .slot) (a .n) (over (readerOf (a .reader) (now (a .log))) d)) (l .before .no-delta .ensures)
+    ∙ ap (λ (x : ℕ). segmentsOf (now (a .frame)) (a .slot) x (beside (readerOf (a .reader) (now (a .log))) (l .before .no-delta .result))) h
+    ∙ ap (λ (d : Delta). segmentsOf (now (a .frame)) (a .slot) (a .n) (beside (readerOf (a .reader) (now (a .log))) d)) (l .before .no-delta .ensures)
 
 pub segments-spec : {M : Type 1} → statement M
 segments-spec =

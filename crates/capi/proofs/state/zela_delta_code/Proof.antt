@@ -4,7 +4,7 @@ use mathlib.Core.Path.{ap, _∙_}
 use denote.Ref.{now}
 use Rattle.refusal.specs.Refusals.{leaves}
 use Rattle.tables.specs.declared.Delta.{Delta}
-use Rattle.blocks.specs.Side.{codeOf}
+use Rattle.blocks.specs.Side.{deltbaeOf}
 use Rattle.blocks.proofs.SideLaws.{code-in}
 use Rattle.capi.specs.States.{stateFrom}
 use Rattle.capi.proofs.Laws.{kept-as}
@@ -15,7 +15,7 @@ use Rattle.capi.proofs.state.zela_delta_code.Tie as tie
 returns : tie.Need-returns
 returns c =
     let a = c .before .before .before .before .before .before .before .before .args in
-    let asked = ap (λ (d : Delta). leaves d (codeOf d (a .slot) (a .code) (a .block0))) (c .before .before .before .before .before .before .segments-at .ensures) in
+    let asked = ap (λ (d : Delta). leaves d (deltbaeOf d (a .slot) (a .code) (a .block0))) (c .before .before .before .before .before .before .segments-at .ensures) in
     kept-as (now (a .state)) (c .before .before .put-segments .ensures)
     (code-in (stateFrom (now (a .state))) (a .slot) (a .code) (a .block0) _ (c .before .before .before .before .before .delta-code .ensures ∙ asked))
     (c .done .ensures)

@@ -6,7 +6,7 @@ use mir.Facts.{toZ-ofZ}
 use Rattle.syntax.specs.declared.Place.{Place}
 use Rattle.syntax.specs.Reads.{standing}
 use Rattle.tables.specs.declared.Delta.{Delta}
-use Rattle.blocks.specs.Side.{slotDeltaOf, stoodOf}
+use Rattle.blocks.specs.Side.{slotDeltaOf, settledOf}
 use Rattle.blocks.proofs.SideLaws.{read-in}
 use Rattle.capi.specs.States.{stateFrom}
 use Rattle.capi.proofs.Laws.{gathered-as}
@@ -18,7 +18,7 @@ returns : tie.Need-returns
 returns c =
     let s = c .before .before .before .before .before .before .before .before .before .before .before .before .before .before .before .before in
     let a = s .args in
-    let asked = ap₂ (λ (p : Place) (d : Delta). stoodOf d (slotDeltaOf (now (a .frame)) (standing p (now (a .log))) (a .slot))) (rw (toZ-ofZ (s .fits .block)) at (c .before .before .before .before .before .before .before .before .before .before .before .place-of .ensures)) (c .before .before .before .before .before .before .before .before .before .segments-at .ensures) in
+    let asked = ap₂ (λ (p : Place) (d : Delta). settledOf d (slotDeltaOf (now (a .frame)) (standing p (now (a .log))) (a .slot))) (rw (toZ-ofZ (s .fits .block)) at (c .before .before .before .before .before .before .before .before .before .before .before .place-of .ensures)) (c .before .before .before .before .before .before .before .before .before .segments-at .ensures) in
     gathered-as (now (a .state)) (c .before .before .put-segments .ensures)
     (read-in (stateFrom (now (a .state))) (a .slot) (now (a .frame)) _ _ (c .before .before .before .before .before .before .before .read-delta .ensures ∙ asked))
     (c .done .ensures)
