@@ -3,35 +3,46 @@
 use Prim.Native.Nat.{ℕ, zero, suc, _<_}
 use mathlib.Core.Path.{_≡_, refl, sym, ap, _∙_}
 use mathlib.Core.List.{List, [], _∷_}
-use mathlib.Core.Bool.{Bool, true, false, cond, not, _&&_}
+use mathlib.Core.Bool.{Bool, true, false, cond, not}
 use native.Mathlib.Omega.{arith}
-use lib.Dec.{eqb}
 use lib.ListN.{length, getD}
 use borrow.Author.Tests.{ne-eqb}
 use Rattle.refusal.specs.declared.Refusal.{Refusal}
 use Rattle.refusal.specs.Refusals.{Grounds, Outcome, taken, refused, grounds, told, refuseIf, andThen, Ran}
 use Rattle.tables.specs.declared.Delta.{Delta}
+use Rattle.tables.specs.declared.Pointers.{Pointers}
 use Rattle.tables.specs.Bands.{zeros}
 use Rattle.tables.specs.Pointers.{pointersBy}
-use Rattle.tables.specs.Fits.{tablesFit}
+use Rattle.tables.specs.Fits.{tablesFit, deltaFits}
 use Rattle.alloc.specs.declared.Ended.{Ended}
 use Rattle.alloc.specs.declared.Ended.the-variants as ended
 use Rattle.alloc.specs.declared.Allocated.{Allocated}
-use Rattle.alloc.specs.Answers.{filled, endedOf, allocatedOf, allocateOf}
+use Rattle.alloc.specs.declared.Codes.{Codes}
+use Rattle.alloc.specs.declared.Leak.{Leak}
+use Rattle.alloc.specs.Params.{curveOf, levelsOf, startOf}
+use Rattle.alloc.specs.Answers.{filled, endedOf, allocatedOf, channelOf, allocateOf}
 use Rattle.blocks.specs.declared.AllocState.{AllocState}
-use Rattle.blocks.specs.Block.{Slot, codesFit, quiet, noDelta, codesAt, leakAt, deltaAt, uncovered, slotOf, left, slotsFrom, silence, filledSlots, allocateBlockOf}
+use Rattle.blocks.specs.Block.{Slot, codesFit, quiet, noDelta, codesAt, leakAt, deltaAt, uncovered, lacksLeak, stateOf, slotOf, slotsFrom, silence, filledSlots, allocateBlockOf}
 
 -- what a call comes to, by its parts
 pub ran-is : {S : Type 0} {o p : Outcome Unit} {a b : S} → o ≡ p → a ≡ b → _≡_ {A = Ran S Unit} (record { outcome = o; state = a }) (record { outcome = p; state = b })
 ran-is e f = λ i. record { outcome = e i; state = f i }
 
--- what a slot's answer says of what it comes to
-module _ (r : Allocated) {q : Ran (List ℕ) Unit} (e : allocatedOf r ≡ q) where
-  pub slot-taken : r .answer ≡ ended.Done → left q ≡ taken (r .bap)
-  slot-taken d = sym (ap (λ x. left x) e) ∙ ap (λ (a : Ended). andThen (endedOf a) (λ _. taken (r .bap))) d
+-- the pointers of a slot, with what is told of them, and back
+filled-back : (o : Outcome (List ℕ)) → stateOf (filled o) ≡ o
+filled-back (taken bap) = refl
+filled-back (refused g) = refl
 
-  pub slot-refused : {g : Refusal} → r .answer ≡ ended.Refused g → left q ≡ told g
-  slot-refused d = sym (ap (λ x. left x) e) ∙ ap (λ (a : Ended). andThen (endedOf a) (λ _. taken (r .bap))) d
+-- what a slot's answer says of what it comes to
+module _ (r : Allocated) {o : Outcome (List ℕ)} (e : allocatedOf r ≡ filled o) where
+  slot-is : o ≡ andThen (endedOf (r .answer)) (λ _. taken (r .bap))
+  slot-is = sym (filled-back o) ∙ sym (ap (λ x. stateOf x) e)
+
+  pub slot-taken : r .answer ≡ ended.Done → o ≡ taken (r .bap)
+  slot-taken d = slot-is ∙ ap (λ (a : Ended). andThen (endedOf a) (λ _. taken (r .bap))) d
+
+  pub slot-refused : {g : Refusal} → r .answer ≡ ended.Refused g → o ≡ told g
+  slot-refused d = slot-is ∙ ap (λ (a : Ended). andThen (endedOf a) (λ _. taken (r .bap))) d
 
 -- the segments of a slot that is not LFE
 pub delta-own : (st : AllocState) (i : ℕ) (d : Delta) → (i ≡ 6 → ⊥) → i < length (st .delta) → getD (st .delta) i d ≡ deltaAt st i
@@ -43,27 +54,42 @@ delta-own st i d n h = rw (ne-eqb i 6 n) (any-default (st .delta) i h)
     any-default (x ∷ l) zero h = refl
     any-default (x ∷ l) (suc k) h = any-default l k (omega arith)
 
+-- a channel alone that is refused has zeros, as a slot has
+alone-filled : (exp : List ℕ) (start end : ℕ) (k : Codes) (l : Leak) (d : Delta) (w : Pointers) (hearing logAdd : List ℕ)
+    → allocateOf exp start end k l d w hearing logAdd ≡ filled (stateOf (allocateOf exp start end k l d w hearing logAdd))
+unfolding allocateOf
+alone-filled exp start end k l d w hearing logAdd =
+    ap (λ o. filled o)
+    (sym
+    (filled-back
+    (refuseIf (not (tablesFit hearing logAdd)) 21 0
+    (andThen (curveOf k) (λ c.
+    andThen (levelsOf k) (λ v.
+    andThen (startOf l) (λ b.
+    refuseIf (not (deltaFits d)) 11 0
+    (channelOf exp start end c v b d w hearing logAdd))))))))
+
 -- the cases of a slot
 module _ (st : AllocState) (fscod : ℕ) (hearing logAdd : List ℕ) (i : ℕ) (s : Slot) where
-  pub slot-absent : s .present ≡ false → filled (taken zeros) ≡ slotOf st fscod hearing logAdd i s
+  pub slot-absent : s .present ≡ false → filled (taken zeros) ≡ filled (slotOf st fscod hearing logAdd i s)
   unfolding slotOf
   slot-absent h = rw h
 
   module _ (h : s .present ≡ true) where
-    pub slot-12 : uncovered s ≡ true → filled (refused (grounds 12 0)) ≡ slotOf st fscod hearing logAdd i s
+    pub slot-12 : uncovered s ≡ true → filled (refused (grounds 12 0)) ≡ filled (slotOf st fscod hearing logAdd i s)
     unfolding slotOf
     slot-12 u = rw (u, h)
 
     module _ (u : uncovered s ≡ false) where
-      pub slot-10 : (eqb i 5 && not (st .«cplleak_sent»)) ≡ true → filled (refused (grounds 10 0)) ≡ slotOf st fscod hearing logAdd i s
+      pub slot-10 : lacksLeak st i ≡ true → filled (refused (grounds 10 0)) ≡ filled (slotOf st fscod hearing logAdd i s)
       unfolding slotOf
       slot-10 l = rw (u, l, h)
 
       -- the channel alone, with what the slot hands to it
-      pub slot-alone : (eqb i 5 && not (st .«cplleak_sent»)) ≡ false
-          → allocateOf (s .exp) (s .start) (s .end) (codesAt st fscod i) (leakAt st i) (deltaAt st i) (pointersBy (s .high)) hearing logAdd ≡ slotOf st fscod hearing logAdd i s
+      pub slot-alone : lacksLeak st i ≡ false
+          → allocateOf (s .exp) (s .start) (s .end) (codesAt st fscod i) (leakAt st i) (deltaAt st i) (pointersBy (s .high)) hearing logAdd ≡ filled (slotOf st fscod hearing logAdd i s)
       unfolding slotOf
-      slot-alone l = rw (u, l, h)
+      slot-alone l = rw (u, l, h) (alone-filled (s .exp) (s .start) (s .end) (codesAt st fscod i) (leakAt st i) (deltaAt st i) (pointersBy (s .high)) hearing logAdd)
 
 -- the cases of the tests that look at no slot
 module _ (st : AllocState) (fscod : ℕ) (slots : List Slot) (hearing logAdd : List ℕ) where

@@ -9,7 +9,7 @@ use lib.Dec.{leb, ltb, eqb, T}
 use lib.IntN.{ℤ, pos}
 use lib.ListN.{length, getD}
 use borrow.Author.Tests.{leb-true, le-ltb}
-use Rattle.refusal.specs.Refusals.{Outcome, taken, refused, refuseIf, Ran, thenRun}
+use Rattle.refusal.specs.Refusals.{Outcome, taken, refused, refuseIf}
 use Rattle.tables.specs.declared.Delta.{Delta}
 use Rattle.tables.specs.declared.Pointers.{Pointers}
 use Rattle.tables.specs.Codes.{codeAt, slowDecay, fastDecay, slowGain, kneeTable, floorTable, fastGain, leakOf, snrOffset, fineOf, snrOf}
@@ -25,7 +25,7 @@ use Rattle.alloc.specs.Channel.{pointersOf}
 use Rattle.alloc.specs.Params.{curveOf, levelsOf, beginsAt, leaksOf, startOf}
 use Rattle.alloc.specs.Answers.{filled, channelOf, allocateOf}
 use Rattle.blocks.specs.declared.AllocState.{AllocState}
-use Rattle.blocks.specs.Block.{baiFits, leakFits, ifSent, sentFit, othersFit, deltasFit, codesFit, noDelta, codesAt, leakAt, deltaAt, uncovered, slotOf}
+use Rattle.blocks.specs.Block.{baiFits, leakFits, ifSent, sentFit, othersFit, deltasFit, codesFit, noDelta, codesAt, leakAt, deltaAt, uncovered, lacksLeak, stateOf, slotOf}
 use Rattle.blocks.specs.Order.{among, byOneOf, InOrder}
 
 -- the numbers of a slot
@@ -96,7 +96,7 @@ channel-by false true outside bap = refl
 channel-by false false true bap = refl
 channel-by false false false bap = refl
 
-filled-by : (o : Outcome (List ℕ)) → byOneOf slotNumbers o ≡ true → byOneOf slotNumbers (filled o .outcome) ≡ true
+filled-by : (o : Outcome (List ℕ)) → byOneOf slotNumbers o ≡ true → byOneOf slotNumbers (stateOf (filled o)) ≡ true
 unfolding byOneOf
 filled-by (taken bap) h = refl
 filled-by (refused g) h = h
@@ -104,7 +104,7 @@ filled-by (refused g) h = h
 -- the channel alone
 module _ (exp : List ℕ) (start end : ℕ) (k : Codes) (l : Leak) (d : Delta) (w : Pointers) (hearing logAdd : List ℕ) where
   alone-by : tablesFit hearing logAdd ≡ true → Takes (curveOf k) → Takes (levelsOf k) → Takes (startOf l)
-      → deltaFits d ≡ true → byOneOf slotNumbers (allocateOf exp start end k l d w hearing logAdd .outcome) ≡ true
+      → deltaFits d ≡ true → byOneOf slotNumbers (stateOf (allocateOf exp start end k l d w hearing logAdd)) ≡ true
   unfolding allocateOf channelOf
   alone-by t c v s f =
       let pointers = pointersOf exp logAdd hearing (tableOf w) start end (c .0) (s .0) (v .0) d in
@@ -113,10 +113,8 @@ module _ (exp : List ℕ) (start end : ℕ) (k : Codes) (l : Leak) (d : Delta) (
       (channel-by (leb end start) (ltb 253 end) (not (upto 24 exp start (end - start))) pointers))
 
 -- 12 and 10 stand before it
-slot-by : (present uncovered lacks : Bool) (alone : Ran (List ℕ) Unit) → (lacks ≡ false → byOneOf slotNumbers (alone .outcome) ≡ true)
-    → byOneOf slotNumbers
-    (cond (not present) (filled (taken zeros))
-    (thenRun (filled (refuseIf uncovered 12 0 (refuseIf lacks 10 0 (taken zeros)))) (λ _ _. alone)) .outcome) ≡ true
+slot-by : (present uncovered lacks : Bool) (alone : Outcome (List ℕ)) → (lacks ≡ false → byOneOf slotNumbers alone ≡ true)
+    → byOneOf slotNumbers (cond (not present) (taken zeros) (refuseIf uncovered 12 0 (refuseIf lacks 10 0 alone))) ≡ true
 unfolding byOneOf among
 slot-by false u l alone h = refl
 slot-by true true l alone h = refl
@@ -175,14 +173,14 @@ sent-parts st e =
     record { parameters = and-left _ _ e; offset = and-left _ _ f; leaks = and-right (ifSent (st .«csnroffst_sent») (leb (st .csnroffst) 63)) _ f }
 
 pub in-order : InOrder
-unfolding slotOf codesFit leakAt deltaAt
+unfolding slotOf lacksLeak codesFit leakAt deltaAt
 in-order st fscod hearing logAdd t i h s =
     let sent = sent-parts st (and-left (sentFit st) _ (t .codes)) in
     let rest = and-right (sentFit st) _ (t .codes) in
     let others = and-left (othersFit st fscod) _ rest in
     let bai = sent-fits _ _ (sent .parameters) (t .parameters) in
     let below : i < length (st .delta) = omega (arith, t .slots) in
-    slot-by (s .present) (uncovered s) (eqb i 5 && not (st .«cplleak_sent»)) _ (λ e.
+    slot-by (s .present) (uncovered s) (lacksLeak st i) _ (λ e.
     alone-by (s .exp) (s .start) (s .end) (codesAt st fscod i) _ _ (pointersBy (s .high)) hearing logAdd (t .tables)
     (codes-curve st fscod i h bai others)
     (codes-levels st fscod i h bai (sent-fits _ _ (sent .offset) (t .csnroffst)) others)

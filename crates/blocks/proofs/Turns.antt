@@ -16,7 +16,7 @@ use Rattle.tables.specs.Fits.{deltaFits}
 use Rattle.alloc.specs.Table.{table}
 use Rattle.alloc.proofs.TableLaws.{length-table, getD-table}
 use Rattle.blocks.specs.declared.AllocState.{AllocState}
-use Rattle.blocks.specs.Block.{Slot, slotAt, asked, deltasFit, quietFrom, slotOf, left, slotsFrom, silence}
+use Rattle.blocks.specs.Block.{Slot, slotAt, asked, deltasFit, quietFrom, slotOf, slotsFrom, silence}
 
 -- whether the segments are fit
 module _ (ds : List Delta) (i : ℕ) (d : Delta) (h : i < length ds) where
@@ -106,15 +106,15 @@ module _ (st : AllocState) (fscod : ℕ) (present high : List Bool) (exponents r
       taken (bap ∷ rest)))
 
   module _ (h : i < 7) where
-    slots-one : slotsOn i ≡ onward (left (slotOf st fscod hearing logAdd i (slotAt present high exponents ranges i)))
+    slots-one : slotsOn i ≡ onward (slotOf st fscod hearing logAdd i (slotAt present high exponents ranges i))
     unfolding slotsFrom
     slots-one = ap (slotsFrom st fscod hearing logAdd i) (asked-on present high exponents ranges i h) ∙ rw add-one
 
-    pub slots-stop : {g : Grounds} → left (slotOf st fscod hearing logAdd i (slotAt present high exponents ranges i)) ≡ refused g
+    pub slots-stop : {g : Grounds} → slotOf st fscod hearing logAdd i (slotAt present high exponents ranges i) ≡ refused g
         → refused g ≡ after (take i out) (slotsOn i)
     slots-stop e = sym (ap (λ o. after (take i out) o) (slots-one ∙ ap (λ o. onward o) e))
 
-    pub slots-on : {bap : List ℕ} → i < length out → left (slotOf st fscod hearing logAdd i (slotAt present high exponents ranges i)) ≡ taken bap
+    pub slots-on : {bap : List ℕ} → i < length out → slotOf st fscod hearing logAdd i (slotAt present high exponents ranges i) ≡ taken bap
         → after (take (i + 1) (set out i bap)) (slotsOn (i + 1)) ≡ after (take i out) (slotsOn i)
     slots-on {bap} k e =
         let front : take (i + 1) (set out i bap) ≡ take i out ++ (bap ∷ []) = rw add-one (take-suc-set out i bap k) in

@@ -6,7 +6,7 @@ use mathlib.Core.List.{List, [], _∷_}
 use mathlib.Core.Bool.{Bool, true, false, cond, not, _&&_, _||_}
 use lib.Dec.{ltb, leb, eqb}
 use lib.ListN.{getD, replicate}
-use Rattle.refusal.specs.Refusals.{Outcome, taken, refuseIf, andThen, Ran, leaves, thenRun}
+use Rattle.refusal.specs.Refusals.{Outcome, taken, refuseIf, andThen, Ran, leaves}
 use Rattle.bits.specs.declared.Put.{Put}
 use Rattle.bits.specs.Answers.{doneOf}
 use Rattle.tables.specs.declared.Delta.{Delta}
@@ -18,7 +18,7 @@ use Rattle.alloc.specs.declared.Codes.{Codes}
 use Rattle.alloc.specs.declared.Leak.{Leak}
 use Rattle.alloc.specs.declared.Leak.the-variants as leak
 use Rattle.alloc.specs.Table.{table}
-use Rattle.alloc.specs.Answers.{filled, allocateOf}
+use Rattle.alloc.specs.Answers.{allocateOf}
 use Rattle.blocks.specs.declared.AllocState.{AllocState}
 
 -- what a block asks for a slot: whether it is there, whether its pointers are hebap, its exponents, their range, and the range asked for
@@ -127,26 +127,28 @@ deltaAt st i = cond (isLfe i) noDelta (segmentsAt st i)
 unfoldable pub uncovered : Slot → Bool
 uncovered s = ltb (s .start) (s .expStart) || ltb (s .expEnd) (s .end)
 
--- slot i: zeros where it is not present; else "12; 10 for leak", and the channel alone
-unfoldable pub slotOf : AllocState → ℕ → List ℕ → List ℕ → ℕ → Slot → Ran (List ℕ) Unit
-slotOf st fscod hearing logAdd i s =
-    cond (not (s .present)) (filled (taken zeros))
-    (thenRun
-    (filled
-    (refuseIf (uncovered s) 12 0
-    (refuseIf (isCoupling i && not (st .«cplleak_sent»)) 10 0
-    (taken zeros))))
-    (λ _ _. allocateOf (s .exp) (s .start) (s .end) (codesAt st fscod i) (leakAt st i) (deltaAt st i) (pointersBy (s .high)) hearing logAdd))
+-- 10 for the leak: coupling's was not sent
+unfoldable pub lacksLeak : AllocState → ℕ → Bool
+lacksLeak st i = isCoupling i && not (st .«cplleak_sent»)
 
 -- the state that a call left, where it was taken
-abbrev pub left : {S : Type 0} → Ran S Unit → Outcome S
-left r = andThen (r .outcome) (λ _. taken (r .state))
+abbrev pub stateOf : {S : Type 0} → Ran S Unit → Outcome S
+stateOf r = andThen (r .outcome) (λ _. taken (r .state))
+
+-- slot i: zeros where it is not present; else "12; 10 for leak", and the channel alone
+unfoldable pub slotOf : AllocState → ℕ → List ℕ → List ℕ → ℕ → Slot → Outcome (List ℕ)
+slotOf st fscod hearing logAdd i s =
+    cond (not (s .present)) (taken zeros)
+    (refuseIf (uncovered s) 12 0
+    (refuseIf (lacksLeak st i) 10 0
+    (stateOf
+    (allocateOf (s .exp) (s .start) (s .end) (codesAt st fscod i) (leakAt st i) (deltaAt st i) (pointersBy (s .high)) hearing logAdd))))
 
 -- the slots from slot i on, in order: the first refusal ends them
 unfoldable pub slotsFrom : AllocState → ℕ → List ℕ → List ℕ → ℕ → List Slot → Outcome (List (List ℕ))
 slotsFrom st fscod hearing logAdd i [] = taken []
 slotsFrom st fscod hearing logAdd i (s ∷ ss) =
-    andThen (left (slotOf st fscod hearing logAdd i s)) (λ bap.
+    andThen (slotOf st fscod hearing logAdd i s) (λ bap.
     andThen (slotsFrom st fscod hearing logAdd (suc i) ss) (λ rest.
     taken (bap ∷ rest)))
 

@@ -35,4 +35,4 @@ pub record Tested (st : AllocState) (fscod : ℕ) (hearing logAdd : List ℕ) : 
 abbrev pub InOrder : Type 0
 InOrder =
     (st : AllocState) (fscod : ℕ) (hearing logAdd : List ℕ) → Tested st fscod hearing logAdd → (i : ℕ) → i < slotCount → (s : Slot)
-    → byOneOf (12 ∷ 10 ∷ 6 ∷ 8 ∷ []) (slotOf st fscod hearing logAdd i s .outcome) ≡ true
+    → byOneOf (12 ∷ 10 ∷ 6 ∷ 8 ∷ []) (slotOf st fscod hearing logAdd i s) ≡ true

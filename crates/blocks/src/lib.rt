@@ -21,15 +21,15 @@ ghost use mathlib.Core.Path.{_≡_};
 ghost use mathlib.Core.List.{List, []};
 ghost use Rattle.bits.specs.Answers.{doneOf};
 ghost use Prim.Native.Nat.{ℕ, _<_, _≤_, _+_};
-ghost use mathlib.Core.Bool.{Bool, not, _&&_, _||_};
-ghost use lib.Dec.{ltb, eqb};
+ghost use mathlib.Core.Bool.{Bool, not, _||_};
+ghost use lib.Dec.{eqb};
 ghost use Rattle.refusal.specs.Refusals.{numberOf, grounds, taken, refused as refusedOf, andThen, leaves, thenRun};
 ghost use Rattle.syntax.specs.Reads.{standing, seenOf, readerOf};
 ghost use Rattle.tables.specs.Bands.{zeros};
 ghost use Rattle.tables.specs.Pointers.{pointersBy};
-ghost use Rattle.tables.specs.Slots.{slotCount, isCoupling};
-ghost use Rattle.alloc.specs.Answers.{endedOf, allocatedOf, allocateOf};
-ghost use Rattle.blocks.specs.Block.{baiFits, leakFits, ifSent, sentFit, othersFit, deltasFit, codesFit, quietFrom, quiet, noDelta, codesAt, leakAt, deltaAt, slotBy, asked, slotOf, blockOf, filledSlots, silence, slotsFrom, allocateBlockOf};
+ghost use Rattle.tables.specs.Slots.{slotCount};
+ghost use Rattle.alloc.specs.Answers.{endedOf, allocatedOf, filled, allocateOf};
+ghost use Rattle.blocks.specs.Block.{baiFits, leakFits, ifSent, sentFit, othersFit, deltasFit, codesFit, quietFrom, quiet, noDelta, codesAt, leakAt, deltaAt, slotBy, asked, uncovered, lacksLeak, slotOf, blockOf, filledSlots, silence, slotsFrom, allocateBlockOf};
 ghost use Rattle.blocks.specs.Side.{badCode, deltbaeOf, fieldAsk, withSegment, segmentOf, segmentsOf, slotDeltaOf, beside, soFarOf, deltaToldOf, deltaReadOf, settledOf};
 
 // The side information that a frame's blocks carry on, by its names in TS, not yet decoded. Beside what may be unsent stands whether it
@@ -232,19 +232,19 @@ fn delta_of(state: AllocState, i: usize) -> Delta
     state.delta[i]
 }
 
-// Whether the exponents don't cover the range asked for.
-fn is_uncovered(exp_start: usize, exp_end: usize, start: usize, end: usize) -> bool
-    ensures { λ r. ⌜ r ≡ (ltb start «exp_start» || ltb «exp_end» end) ⌝ }
+// Whether the exponents don't cover the range asked for, whatever else is asked for the slot.
+fn is_uncovered(range: [usize; 4]) -> bool
+    ensures { λ r. ⌜ ((present high : Bool) (exp : List ℕ) → r ≡ uncovered (slotBy present high exp range)) ⌝ }
 {
-    if exp_start > start {
+    if range[0] > range[2] {
         return true;
     }
-    exp_end < end
+    range[1] < range[3]
 }
 
 // Whether a slot needs a leak that was not sent.
 fn lacks_leak(state: AllocState, i: usize) -> bool
-    ensures { λ r. ⌜ r ≡ (isCoupling i && not (state .«cplleak_sent»)) ⌝ }
+    ensures { λ r. ⌜ r ≡ lacksLeak state i ⌝ }
 {
     if i == CPL {
         return !state.cplleak_sent;
@@ -296,12 +296,12 @@ fn fill_slot(
     row: &mut [u8; 256],
 ) -> Ended
     requires { ⌜ (i < slotCount) × (now row ≡ zeros) ⌝ }
-    ensures { λ r. ⌜ allocatedOf (record { answer = r; bap = now (row .exit) }) ≡ slotOf state fscod (now (hearing .entry)) (now («log_add» .entry)) i (slotBy present high (now (exp .entry)) range) ⌝ }
+    ensures { λ r. ⌜ allocatedOf (record { answer = r; bap = now (row .exit) }) ≡ filled (slotOf state fscod (now (hearing .entry)) (now («log_add» .entry)) i (slotBy present high (now (exp .entry)) range)) ⌝ }
 {
     if !present {
         return Ended::Done;
     }
-    let uncovered = is_uncovered(range[0], range[1], range[2], range[3]);
+    let uncovered = is_uncovered(range);
     let lacks = lacks_leak(state, i);
     if uncovered {
         return refused_slot(Why::NotCovered);

@@ -4,7 +4,7 @@ use mathlib.Core.Path.{refl, sym, _∙_}
 use borrow.Author.Needs.{needs}
 use borrow.Author.Tests.{not-true, not-false}
 use denote.Ref.{now}
-use Rattle.blocks.specs.Block.{slotBy, uncovered}
+use Rattle.blocks.specs.Block.{slotBy}
 use Rattle.blocks.proofs.Cases.{ran-is, slot-absent, slot-12, slot-10, slot-alone}
 use Rattle.blocks.proofs.fill_slot.Statement.{statement}
 use Rattle.blocks.proofs.fill_slot.Tie as tie
@@ -17,17 +17,15 @@ returns c =
     ∙ slot-absent (a .state) (a .fscod) (a .hearing .now) (a .log-add .now) (a .i) (slotBy (a .present) (a .high) (now (a .exp)) (a .t7)) (not-true _ (c .if1 .taken))
 
 returns-2 : tie.Need-returns-2
-unfolding uncovered
 returns-2 c =
     let f = c .before .before .before .before in
     let s = f .before .before .before in
     let a = s .args in
     ran-is (c .refused-slot .ensures) (s .pre .1)
     ∙ slot-12 (a .state) (a .fscod) (a .hearing .now) (a .log-add .now) (a .i) (slotBy (a .present) (a .high) (now (a .exp)) (a .t7)) (not-false _ (f .if1 .left))
-    (sym (c .before .before .before .is-uncovered .ensures) ∙ c .before .if2 .taken)
+    (sym (c .before .before .before .is-uncovered .ensures _ _ _) ∙ c .before .if2 .taken)
 
 returns-3 : tie.Need-returns-3
-unfolding uncovered
 returns-3 c =
     let l = c .before .before .before in
     let f = l .before .before in
@@ -35,11 +33,10 @@ returns-3 c =
     let a = s .args in
     ran-is (c .refused-slot2 .ensures) (s .pre .1)
     ∙ slot-10 (a .state) (a .fscod) (a .hearing .now) (a .log-add .now) (a .i) (slotBy (a .present) (a .high) (now (a .exp)) (a .t7)) (not-false _ (f .if1 .left))
-    (sym (l .before .is-uncovered .ensures) ∙ c .before .before .if2 .left)
+    (sym (l .before .is-uncovered .ensures _ _ _) ∙ c .before .before .if2 .left)
     (sym (l .lacks-leak .ensures) ∙ c .before .if3 .taken)
 
 returns-4 : tie.Need-returns-4
-unfolding uncovered
 returns-4 c =
     let h = c .before .before in
     let l = h .before .before in
@@ -47,7 +44,7 @@ returns-4 c =
     let a = f .before .before .before .args in
     c .before .channel-of .ensures
     ∙ slot-alone (a .state) (a .fscod) (a .hearing .now) (a .log-add .now) (a .i) (slotBy (a .present) (a .high) (now (a .exp)) (a .t7)) (not-false _ (f .if1 .left))
-    (sym (l .before .is-uncovered .ensures) ∙ h .before .if2 .left)
+    (sym (l .before .is-uncovered .ensures _ _ _) ∙ h .before .if2 .left)
     (sym (l .lacks-leak .ensures) ∙ h .if3 .left)
 
 pub fill-slot-spec : {M : Type 1} → statement M
@@ -55,10 +52,6 @@ fill-slot-spec =
     tie.close
     (tie.spec
     returns
-    (λ c. search needs)
-    (λ c. search needs)
-    (λ c. search needs)
-    (λ c. search needs)
     (λ c κs. search needs)
     (λ c κs. search needs)
     (λ c κs. search needs)
