@@ -50,7 +50,7 @@ withDelta st slot d = withDeltas st (set (st .delta) slot d)
 abbrev pub badCode : ℕ → Bool → Bool
 badCode code block0 = ltb 2 code || (eqb code 0 && block0)
 
--- the segments of a slot after a deltbae code: 6 for the slot, then 15; 2 is no segments, 0 and 1 leave them
+-- the segments of a slot after a deltbae code (TS Table 4.11): 6 for the slot, then 15; 2 is no segments, 0 and 1 leave them
 unfoldable pub deltbaeOf : Delta → ℕ → ℕ → Bool → Outcome Delta
 deltbaeOf d slot code block0 =
     refuseIf (noSlot slot) 6 0
@@ -65,7 +65,7 @@ deltaCodeOf st slot code block0 = leaves st (andThen (deltbaeOf (segmentsAt st s
 abbrev pub fieldAsk : ℕ → ℕ → ℕ → ℕ → Ask
 fieldAsk name cplName width slot = record { name = cond (isCoupling slot) cplName name; role = role.Plain; index = pos slot; width = width }
 
--- deltnseg, deltoffst, deltlen, deltba: 3, 5, 4, 3 bits
+-- deltnseg, deltoffst, deltlen, deltba: 3, 5, 4, 3 bits (TS 4.3.3)
 abbrev pub nsegAsk : ℕ → Ask
 nsegAsk slot = fieldAsk names.deltnseg names.cpldeltnseg 3 slot
 
@@ -100,7 +100,7 @@ unfoldable pub segmentsOf : List ℕ → ℕ → ℕ → Ran Standing Delta → 
 segmentsOf frame slot zero r = r
 segmentsOf frame slot (suc n) r = thenRun (segmentsOf frame slot n r) (λ d st. segmentOf frame slot d st)
 
--- deltnseg, and one segment more than it says
+-- deltnseg, and one segment more than it says (TS 6.2.2.6)
 unfoldable pub deltaOf : List ℕ → ℕ → Standing → Ran Standing Delta
 deltaOf frame slot st = thenRun (readOf frame st (nsegAsk slot)) (λ n st₁. segmentsOf frame slot (n + 1) (reached noDelta st₁))
 
