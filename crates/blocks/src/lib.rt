@@ -30,7 +30,7 @@ ghost use Rattle.tables.specs.Pointers.{pointersBy};
 ghost use Rattle.tables.specs.Slots.{slotCount};
 ghost use Rattle.alloc.specs.Answers.{endedOf, allocatedOf, filled, allocateOf};
 ghost use Rattle.blocks.specs.Block.{baiFits, leakFits, ifSent, sentFit, othersFit, deltasFit, codesFit, quietFrom, quiet, noDelta, codesAt, leakAt, deltaAt, slotBy, asked, uncovered, lacksLeak, slotOf, blockOf, filledSlots, silence, slotsFrom, allocateBlockOf};
-ghost use Rattle.blocks.specs.Side.{badCode, deltbaeOf, fieldAsk, withSegment, segmentOf, segmentsOf, slotDeltaOf, beside, soFarOf, deltaToldOf, deltaReadOf, settledOf};
+ghost use Rattle.blocks.specs.Side.{badCode, deltbaeOf, fieldAsk, withSegment, segmentOf, segmentsOf, slotDeltaOf, beside, soFarOf, deltaToldOf, deltaReadOf, settled, settledOf};
 
 // The side information that a frame's blocks carry on, by its names in TS, not yet decoded. Beside what may be unsent stands whether it
 // was sent: the five parameters, csnroffst, and the coupling leak. The segments are those of each slot.
@@ -605,6 +605,21 @@ fn kept(delta: Delta, w: SoFar) -> DeltaTold
     }
 }
 
+// No segments: 6, where the cursor stands.
+fn unread(place: Place, delta: Delta) -> DeltaRead
+    ensures { λ r. ⌜ ((log : List ℕ) → deltaReadOf r log ≡ record { outcome = refusedOf (grounds 6 (place .pos)); state = settled (standing place log) delta }) ⌝ }
+{
+    let r = Refusal {
+        why: Why::BadArgument,
+        bit: place.pos,
+    };
+    DeltaRead {
+        answer: Put::Refused(r),
+        place: place,
+        delta: delta,
+    }
+}
+
 // Reads a slot's segments, deltnseg and one more than it says: 6 for the slot, then what a read is refused with.
 pub fn read_delta(
     frame: &[u8],
@@ -616,15 +631,7 @@ pub fn read_delta(
     ensures { λ r. ⌜ deltaReadOf r (now (log .exit)) ≡ settledOf delta (slotDeltaOf (now (frame .entry)) (standing place (now (log .entry))) slot) ⌝ }
 {
     if slot > LFE {
-        let r = Refusal {
-            why: Why::BadArgument,
-            bit: place.pos,
-        };
-        return DeltaRead {
-            answer: Put::Refused(r),
-            place: place,
-            delta: delta,
-        };
+        return unread(place, delta);
     }
     let first = syntax::begin(place);
     let nseg = syntax::next(

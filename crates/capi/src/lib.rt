@@ -181,6 +181,27 @@ pub extern "C" fn zela_check_tiling(log: &[u32], count: usize, total: usize, bit
     done(syntax::check_tiling(log, count, total), bit)
 }
 
+// Where there is no element, each field is 0.
+fn no_fields(
+    name: &mut u32,
+    role: &mut u32,
+    block: &mut i8,
+    index: &mut i16,
+    pos: &mut u32,
+    width: &mut u32,
+    value: &mut u32,
+)
+    ensures { λ _. ⌜ fields (now (name .exit)) (now (role .exit)) (now (block .exit)) (now (index .exit)) (now (pos .exit)) (now (width .exit)) (now (value .exit)) ≡ noFields ⌝ }
+{
+    *name = 0;
+    *role = 0;
+    *block = 0;
+    *index = 0;
+    *pos = 0;
+    *width = 0;
+    *value = 0;
+}
+
 // syntax::element_at, field by field.
 #[no_mangle]
 pub extern "C" fn zela_element_at(
@@ -214,13 +235,7 @@ pub extern "C" fn zela_element_at(
             0
         }
         Found::Refused(r) => {
-            *name = 0;
-            *role = 0;
-            *block = 0;
-            *index = 0;
-            *pos = 0;
-            *width = 0;
-            *value = 0;
+            no_fields(name, role, block, index, pos, width, value);
             tell(r, bit)
         }
     }
@@ -303,7 +318,6 @@ pub extern "C" fn zela_allocate(
     let side = codes_from(codes);
     let leak = leak_from(has_leak, cplfleak, cplsleak);
     let delta = delta_from(segments, offset, length, ba);
-    let which = tables::pointers_by(high);
     let r = alloc::allocate(
         exponents,
         Bin(start),
@@ -311,7 +325,7 @@ pub extern "C" fn zela_allocate(
         side,
         leak,
         delta,
-        which,
+        tables::pointers_by(high),
         hearing,
         log_add,
     );

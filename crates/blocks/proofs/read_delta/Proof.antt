@@ -17,7 +17,8 @@ use Rattle.blocks.proofs.read_delta.Tie as tie
 
 returns : tie.Need-returns
 returns c =
-    let a = c .before .before .before .args in delta-6 (now (a .frame)) (standing (a .place) (now (a .log))) (a .delta) (a .slot) (c .if1 .taken)
+    let a = c .before .before .before .before .args in
+    c .unread .ensures (now (a .log)) ∙ delta-6 (now (a .frame)) (standing (a .place) (now (a .log))) (a .delta) (a .slot) (c .before .if1 .taken)
 
 -- deltnseg has three bits
 few : (c : tie.After-next) → c .next .result .value < 8
@@ -63,6 +64,7 @@ pub read-delta-spec : {M : Type 1} → statement M
 read-delta-spec =
     tie.close
     (tie.spec
+    (λ c κs. search needs)
     returns
     (λ c κs. search needs)
     (λ c κs. omega (arith, c .before .before .if1 .left))
