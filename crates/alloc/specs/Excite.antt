@@ -37,7 +37,7 @@ stepLow c p low s =
       begun = true;
     }
 
--- every other band, and each band of the coupling channel
+-- every other band, and each band of a channel that does not begin at band 0
 unfoldable pub stepHigh : Curve → ℤ → Carried → Carried
 stepHigh c p s =
     record {

@@ -131,7 +131,7 @@ fn eac3(frame: &[u8]) -> Probed
     })
 }
 
-// The syntax and the length of the frame that begins so; the rest of it need not be there. 3, then 2, then 4 for AC-3, then 5.
+// The syntax and the length of the frame that begins so; the rest of it need not be there. 3, then 2, then 5, then 4 for AC-3.
 pub fn probe(frame: &[u8]) -> Probed
     ensures { λ r. ⌜ probedOf r ≡ probeOf (now (frame .entry)) ⌝ }
 {

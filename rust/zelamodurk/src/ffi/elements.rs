@@ -187,10 +187,12 @@ type Logs<P> = unsafe extern "C" fn(
     bit: *mut usize,
 ) -> u8;
 
+/// # Safety
+/// `pos` is what `logs` takes: room for the position that nothing else is lent, or a number.
 #[inline]
-fn logged<P>(logs: Logs<P>, at: Span, pos: P, last: usize) -> Result<(), Refusal> {
+unsafe fn logged<P>(logs: Logs<P>, at: Span, pos: P, last: usize) -> Result<(), Refusal> {
     let mut bit = 0;
-    // SAFETY: as the module says.
+    // SAFETY: as the module and this function say.
     let number = unsafe {
         logs(
             at.frame.as_ptr(),
@@ -212,12 +214,14 @@ fn logged<P>(logs: Logs<P>, at: Span, pos: P, last: usize) -> Result<(), Refusal
 
 #[inline]
 pub fn span(at: Span, pos: &mut usize, width: usize) -> Result<(), Refusal> {
-    logged(zela_span, at, pos, width)
+    // SAFETY: it is room that is borrowed for this call alone.
+    unsafe { logged(zela_span, at, pos, width) }
 }
 
 #[inline]
 pub fn close_span(at: Span, pos: usize, start: usize) -> Result<(), Refusal> {
-    logged(zela_close_span, at, pos, start)
+    // SAFETY: it is a number.
+    unsafe { logged(zela_close_span, at, pos, start) }
 }
 
 #[inline]
