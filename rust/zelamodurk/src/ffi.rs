@@ -1,10 +1,10 @@
 //! The C boundary, and the only module with `unsafe`: the functions of `include/zelamodurk.h` and a
 //! safe function over each.
 //!
-//! Each call is safe for the same reasons. The declarations are the header's. A slice gives a pointer
-//! that is not null, also where it is empty, and its own length. Room that is lent for writing is a
-//! local, a `&mut` slice or fields of a `&mut` struct, so it overlaps nothing. The core keeps nothing
-//! between calls.
+//! Each call is safe for the same reasons. The declarations are the header's and the core's, which a test
+//! compares. A slice gives a pointer that is not null, also where it is empty, and its own length. Room
+//! that is lent for writing is a local, a `&mut` slice or fields of a `&mut` struct, so it overlaps
+//! nothing. The core keeps nothing between calls.
 #![allow(unsafe_code)]
 
 mod bytes;
