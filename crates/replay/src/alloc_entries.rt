@@ -10,11 +10,10 @@ use alloc::Ended;
 use alloc::Leak;
 use tables::Bin;
 use tables::Delta;
-use tables::Pointers;
 ghost use Prim.Native.Nat.{_+_, _≤_};
 ghost use Rattle.text.specs.Text.{Counts};
 
-// START END CODES LEAK DELTA HIGH
+// START END CODES LEAK DELTA HIGH, which is 1 for hebap
 pub fn allocate(first: &mut [u8], second: &[u8], hearing: &[u32], args: Row) -> Row {
     let mut exponents = [0u8; 256];
     lent::take(first, 0, &mut exponents);
@@ -27,7 +26,7 @@ pub fn allocate(first: &mut [u8], second: &[u8], hearing: &[u32], args: Row) -> 
         codes(args),
         leak(args),
         delta(args),
-        pointers(args),
+        tables::pointers_by(args[39] == 1),
         &halves[..count],
         second,
     );
@@ -105,12 +104,4 @@ fn eight(args: Row, at: usize) -> [u8; 8]
         low::byte(args[at + 6]),
         low::byte(args[at + 7]),
     ]
-}
-
-// 1 for hebap.
-fn pointers(args: Row) -> Pointers {
-    if args[39] == 1 {
-        return Pointers::Hebap;
-    }
-    Pointers::Bap
 }
