@@ -116,20 +116,27 @@ fn numbers_that_no_usize_has_panic() {
     assert_eq!(panics(|| frame(usize::MAX / 8 + 1).total_bits()), 6);
 }
 
+/// The numbers that the readers refuse with where the cursor stands.
+fn each_reader_refuses(cursor: &mut Cursor<'_>) -> [u8; 7] {
+    let groups = &mut Groups::default();
+    [
+        refuses(cursor.get("a", 1)),
+        refuses(cursor.raw(1, "a")),
+        refuses(cursor.span("a", Role::Plain, 1)),
+        refuses(conventional(cursor, &[3], 0, 1, groups)),
+        refuses(aht(cursor, &[8], 0, 1)),
+        refuses(read_exponents(cursor, 0, 1, 0, 4)),
+        refuses(AllocState::default().read_delta(cursor, 0)),
+    ]
+}
+
 /// The original wraps there in a release build, and reads at the frame's start.
 #[test]
 fn an_end_past_every_number_is_refused() {
     let frame = [0; 8];
     let mut cursor = Cursor::new(&frame, 64);
     cursor.pos = usize::MAX;
-    assert_eq!(refuses(cursor.get("a", 1)), 1);
-    assert_eq!(refuses(cursor.raw(1, "a")), 1);
-    assert_eq!(refuses(cursor.span("a", Role::Plain, 1)), 1);
-    let groups = &mut Groups::default();
-    assert_eq!(refuses(conventional(&mut cursor, &[3], 0, 1, groups)), 1);
-    assert_eq!(refuses(aht(&mut cursor, &[8], 0, 1)), 1);
-    assert_eq!(refuses(read_exponents(&mut cursor, 0, 1, 0, 4)), 1);
-    assert_eq!(refuses(AllocState::default().read_delta(&mut cursor, 0)), 1);
+    assert_eq!(each_reader_refuses(&mut cursor), [1; 7]);
     assert_eq!(refuses(read_tail(&mut cursor, 64, Codec::Ac3)), 16);
     assert_eq!((cursor.pos, cursor.fields.len()), (usize::MAX, 0));
     cursor.pos = 1;
@@ -168,14 +175,7 @@ fn a_limit_that_is_not_sound_refuses_what_passes_the_sound_part() {
         let mut cursor = Cursor::new(&frame[..bytes], limit);
         cursor.pos = sound - 1;
         assert_eq!(cursor.get("a", 1), Ok(0));
-        assert_eq!(refuses(cursor.get("a", 1)), 6);
-        assert_eq!(refuses(cursor.raw(1, "a")), 6);
-        assert_eq!(refuses(cursor.span("a", Role::Plain, 1)), 6);
-        let groups = &mut Groups::default();
-        assert_eq!(refuses(conventional(&mut cursor, &[3], 0, 1, groups)), 6);
-        assert_eq!(refuses(aht(&mut cursor, &[8], 0, 1)), 6);
-        assert_eq!(refuses(read_exponents(&mut cursor, 0, 1, 0, 4)), 6);
-        assert_eq!(refuses(AllocState::default().read_delta(&mut cursor, 0)), 6);
+        assert_eq!(each_reader_refuses(&mut cursor), [6; 7]);
         assert_eq!(refuses(read_tail(&mut cursor, limit, Codec::Ac3)), 6);
         assert_eq!((cursor.pos, cursor.fields.len()), (sound, 1));
     }
