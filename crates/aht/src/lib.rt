@@ -397,7 +397,14 @@ fn one_bin(frame: &[u8], place: Place, mode: u8, base: usize, k: usize, h: u8, t
     ensures { λ r. ⌜ tallyOf (now (frame .entry)) place r ≡ binOn (now (frame .entry)) mode base k h (tallyOf (now (frame .entry)) place t) ⌝ }
 {
     if h == 0 {
-        return t;
+        let course = t.course;
+        // Written out, since a copy of the struct would drag its padding through every turn of the loop.
+        return Tally {
+            pos: t.pos,
+            last: t.last,
+            tags: t.tags,
+            course,
+        };
     }
     if h < 8 {
         return read(place, vector_width(h), t);

@@ -18,13 +18,18 @@ use Rattle.syntax.specs.declared.Place.{Place}
 use Rattle.syntax.specs.Reads.{unsound, ahead}
 use Rattle.refusal.proofs.TestLaws.{or-false}
 use Rattle.walks.specs.declared.Groups.{Groups}
-use Rattle.walks.specs.Walk.{State, state, going, stopped, cost, counted, passing, movingOf, mantissaOf, walkCodes, unfitRange, unfitWalk, walkOf, Reachable}
+use Rattle.walks.specs.Walk.{State, state, going, stopped, width, cost, counted, passing, movingOf, mantissaOf, walkCodes, unfitRange, unfitWalk, walkOf, Reachable}
 
 -- the cases of a mantissa
 module _ (b : ℕ) (p : Place) (g : Groups) where
   pub mantissa-above : 15 < b → stopped 13 (state p g) ≡ mantissaOf b (state p g)
   unfolding mantissaOf
   mantissa-above h = rw (lt-ltb 15 b h)
+
+  -- code 0 takes no bits and is in no group
+  pub mantissa-none : b ≡ 0 → going (state p g) ≡ mantissaOf b (state p g)
+  unfolding mantissaOf cost counted width
+  mantissa-none z = rw (z, add-zero)
 
   module _ (n : ℕ) (h : Groups) (low : b ≤ 15) (c : n ≡ cost g b) (e : h ≡ counted g b) where
     pub mantissa-free : n ≡ 0 → going (state p h) ≡ mantissaOf b (state p g)

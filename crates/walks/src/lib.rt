@@ -113,11 +113,32 @@ fn past_limit(place: Place, groups: Groups) -> Walked
     refused(Why::PastLimit, place, groups)
 }
 
-// One mantissa: 13, then the groups count it, then 1. One of no bits asks for no room.
+// The walk goes on at a bit. The place is written out, since a copy of the struct would drag its padding through every turn of the loop.
+fn goes_on(place: Place, pos: usize, groups: Groups) -> Walked
+    ensures { λ r. ⌜ walkedOf r ≡ going (state (record { pos = pos; limit = place .limit; block = place .block; count = place .count }) groups) ⌝ }
+{
+    let next = Place {
+        pos,
+        limit: place.limit,
+        block: place.block,
+        count: place.count,
+    };
+    Walked {
+        answer: Put::Done,
+        place: next,
+        groups,
+    }
+}
+
+// One mantissa: 13, then the groups count it, then 1. One of no bits asks for no room. Code 0, of which there are long runs, is told apart
+// first.
 fn mantissa(b: u8, place: Place, g: Groups) -> Walked
     requires { ⌜ Reachable g ⌝ }
     ensures { λ r. ⌜ walkedOf r ≡ mantissaOf b (state place g) ⌝ }
 {
+    if b == 0 {
+        return goes_on(place, place.pos, g);
+    }
     if 15 < b {
         return refused(Why::PointerAbove, place, g);
     }
@@ -135,18 +156,7 @@ fn mantissa(b: u8, place: Place, g: Groups) -> Walked
         return past_limit(place, groups);
     }
     let pos = place.pos + n;
-    // Written out, since a copy of the struct would drag its padding through every turn of the loop.
-    let next = Place {
-        pos,
-        limit: place.limit,
-        block: place.block,
-        count: place.count,
-    };
-    Walked {
-        answer: Put::Done,
-        place: next,
-        groups,
-    }
+    goes_on(place, pos, groups)
 }
 
 // The mantissas of the bins from start to end.
