@@ -4,7 +4,7 @@ use Prim.Native.Nat.{ℕ, _<_, _≤_, _+_, min, suc, zero}
 use mathlib.Core.Path.{_≡_, subst, sym, ap, _∙_, refl}
 use mathlib.Core.List.{List}
 use native.Mathlib.Omega.{arith}
-use lib.ListN.{getD, length, set, length-set, List·getD-eq-default}
+use lib.ListN.{getD, length, set, replicate, length-set, length-replicate, getD-replicate, List·getD-eq-default}
 use lib.IntN.{ℤ, pos}
 use borrow.Author.Tests.{lt-ltb, le-ltb, ltb-true, le-leb, lt-leb, ltb-false, leb-true, leb-false}
 use mathlib.Core.Bool.{Bool, true, false, _&&_, cond}
@@ -87,8 +87,9 @@ module _ {X : Type 0} where
   fill-turn n start i z f v h e =
       set-table n (inside start i z f) (inside start (i + 1) z f) i v (e ∙ sym (inside-in start (i + 1) z f i h (omega arith))) (λ k p q. inside-suc start i z f k q)
 
-  pub fill-start : (n start : ℕ) (z : X) (f : ℕ → X) → table n (λ k. z) ≡ table n (inside start start z f)
-  fill-start n start z f = table-ext n (λ k. z) (inside start start z f) z (λ k p. sym (none k (leb start k) refl))
+  pub fill-start : (n start : ℕ) (z : X) (f : ℕ → X) → replicate n z ≡ table n (inside start start z f)
+  fill-start n start z f = ext-getD z (replicate n z) (table n (inside start start z f)) (length-replicate n z ∙ sym (length-table n (inside start start z f)))
+      (λ k p. let q : k < n = omega (arith, length-replicate n z) in getD-replicate n k z z q ∙ sym (getD-table n (inside start start z f) k z q ∙ none k (leb start k) refl))
     where
       none : (k : ℕ) (b : Bool) → leb start k ≡ b → inside start start z f k ≡ z
       none k true t = inside-after start start z f k (leb-true start k t)

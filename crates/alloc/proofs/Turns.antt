@@ -10,8 +10,9 @@ use Rattle.alloc.specs.declared.Carried.{Carried}
 use Rattle.alloc.specs.declared.Curve.{Curve}
 use Rattle.alloc.specs.Clauses.{logadd, bandSum, maskAt, masksOf, deltaOf, addSegment, segmentEnd, deltasOf, address, bapAt, bapsOf, pointed, maskStep}
 use Rattle.tables.specs.Bands.{bandOf}
-use Rattle.alloc.specs.Table.{inside}
+use Rattle.alloc.specs.Table.{inside, blend}
 use Rattle.alloc.specs.Excite.{step, leakAt}
+use Rattle.alloc.specs.Channel.{masksFrom}
 use Rattle.alloc.proofs.TableLaws.{fill-turn, blend-turn, blend-clip, blend-inside, table-of, length-table}
 
 -- one bin more
@@ -38,6 +39,10 @@ segment-turn d a k mask v h e = blend-turn 50 a k (λ (j : ℕ). getD mask j (po
 pub segment-clip : (d : ℤ) (a b : ℕ) (mask : List ℤ) → addSegment d (min a 50) (min b 50) mask ≡ addSegment d a b mask
 unfolding addSegment
 segment-clip d a b mask = blend-clip 50 a b (λ (j : ℕ). getD mask j (pos 0) +ℤ d) (λ (j : ℕ). getD mask j (pos 0)) (pos 0)
+
+pub segment-length : (d : ℤ) (a b : ℕ) (mask : List ℤ) → length (addSegment d a b mask) ≡ 50
+unfolding addSegment
+segment-length d a b mask = length-table 50 (blend a b (λ (j : ℕ). getD mask j (pos 0) +ℤ d) (λ (j : ℕ). getD mask j (pos 0)))
 
 -- 6.2.2.7
 pub pointed-turn : (baptab : List ℕ) (psd : ℕ → ℤ) (m : ℤ) (lo i : ℕ) (out : List ℕ) (v : ℕ) → lo ≤ i → v ≡ getD baptab (address (psd i) m) 0
@@ -68,6 +73,11 @@ pub masks-turn : (excite power : ℕ → ℤ) (knee : ℤ) (hearing : List ℕ) 
 unfolding masksOf
 masks-turn excite power knee hearing fscod first k v h e =
     fill-turn 50 first k (pos 0) (λ k. maskAt (excite k) (power k) knee (getD hearing (50 * fscod + k) 0)) v h e
+
+pub masks-length : (psd : List ℤ) (latab hearing : List ℕ) (start end : ℕ) (c : Curve) (s : Carried) (knee : ℤ) (fscod : ℕ)
+    → length (masksFrom psd latab hearing start end c s knee fscod) ≡ 50
+unfolding masksFrom masksOf
+masks-length psd latab hearing start end c s knee fscod = length-table 50 _
 
 pub segmentEnd-next : (offs lens : List ℕ) (n : ℕ) → segmentEnd offs lens (n + 1) ≡ segmentEnd offs lens n + getD offs n 0 + getD lens n 0
 unfolding segmentEnd

@@ -8,17 +8,17 @@ use tables::Delta;
 use tables::Pointers;
 ghost use mathlib.Core.Path.{_≡_};
 ghost use Prim.Native.Nat.{_+_, _-_, _<_, _≤_, _*_, _/_, min, max};
-ghost use lib.ListN.{length, getD};
+ghost use lib.ListN.{length, getD, replicate};
 ghost use mathlib.Core.Bool.{true, not, _&&_};
 ghost use lib.Dec.{ltb, eqb};
 ghost use lib.IntN.{pos, natAbs, _-ℤ_};
 ghost use lib.Signed.{leZ, shrZ};
 ghost use Rattle.refusal.specs.Refusals.{numberOf, grounds, refused as refusedOf};
 ghost use Rattle.tables.specs.Numbers.{Upto, maxZ};
-ghost use Rattle.tables.specs.Bands.{bandOf};
+ghost use Rattle.tables.specs.Bands.{zeros, bandOf};
 ghost use Rattle.tables.specs.Fits.{upto};
 ghost use Rattle.alloc.specs.Params.{curveOf, levelsOf, startOf, curvedOf, leveledOf, begunOf, leaksOf};
-ghost use Rattle.alloc.specs.Clauses.{logadd as logaddOf, rises as risesOf, lowStep, calcLowcomp, maskStep, bandSum, maskAt, masksOf, deltasOf, segmentEnd, deltaOf, addSegment, bapsOf, pointed, bandPower, bandPowers, psdOf, powersOf, address as addressOf};
+ghost use Rattle.alloc.specs.Clauses.{logadd as logaddOf, rises as risesOf, lowStep, calcLowcomp, maskStep, bandSum, maskAt, masksOf, deltasOf, deltaOf, addSegment, bapsOf, pointed, bandPower, bandPowers, psdOf, powersOf, address as addressOf};
 ghost use Rattle.alloc.specs.Excite.{decayed, stepFirst, stepBegin, stepLow, stepHigh, stepFull, lowNext, step, exciteOf};
 ghost use Rattle.alloc.specs.Ranges.{Power, Powers, BandPowers, Sum, Sums, Excited, Excitations, Low, Gain, Knee, Floor, Snr, Masks, ShiftedMask, ShiftedMasks, Shift, Cut, Tame, Kept, Level, Segments};
 ghost use Rattle.alloc.specs.Channel.{masksFrom, pointersOf};
@@ -224,18 +224,16 @@ fn psd_of(e: u8) -> i32
     3072 - 128 * (e as i32)
 }
 
-// The powers of the bins from start to end, and 0 elsewhere.
-fn powers(exp: &[u8; 256], start: usize, end: usize) -> [i32; 256]
-    requires { ⌜ (start ≤ end) × (end ≤ 256) ⌝ }
-    ensures { λ r. ⌜ r ≡ powersOf (now (exp .entry)) start end ⌝ }
+// Puts the powers of the bins from start to end, into zeros.
+fn powers(exp: &[u8; 256], start: usize, end: usize, psd: &mut [i32; 256])
+    requires { ⌜ (start ≤ end) × (end ≤ 256) × (now psd ≡ replicate 256 (pos 0)) ⌝ }
+    ensures { λ _. ⌜ now (psd .exit) ≡ powersOf (now (exp .entry)) start end ⌝ }
 {
-    let mut psd: [i32; 256] = [0; 256];
     let mut i = start;
     while i < end {
         psd[i] = psd_of(exp[i]);
         i += 1;
     }
-    psd
 }
 
 // How far a number lies from 0.
@@ -291,12 +289,11 @@ fn band_power(psd: &[i32; 256], latab: &[u8], start: Bin, end: Bin, k: Band) -> 
     band_sum(psd, latab, lo, hi)
 }
 
-// The powers of the bands, and 0 where the channel has none.
-fn band_powers(psd: &[i32; 256], latab: &[u8], start: Bin, end: Bin) -> [i32; 50]
-    requires { do ⌜ ((← ⟦latab.len()⟧) ≡ 256) × Powers (now psd) × (start .0 < end .0) × (end .0 ≤ 253) ⌝ }
-    ensures { λ r. ⌜ r ≡ bandPowers (now (latab .entry)) (λ j. getD (now (psd .entry)) j (pos 0)) (start .0) (end .0) (bandOf (end .0 - 1) + 1) ⌝ }
+// Puts the powers of the bands that the channel has, into zeros.
+fn band_powers(psd: &[i32; 256], latab: &[u8], start: Bin, end: Bin, out: &mut [i32; 50])
+    requires { do ⌜ ((← ⟦latab.len()⟧) ≡ 256) × Powers (now psd) × (start .0 < end .0) × (end .0 ≤ 253) × (now out ≡ replicate 50 (pos 0)) ⌝ }
+    ensures { λ _. ⌜ now (out .exit) ≡ bandPowers (now (latab .entry)) (λ j. getD (now (psd .entry)) j (pos 0)) (start .0) (end .0) (bandOf (end .0 - 1) + 1) ⌝ }
 {
-    let mut out: [i32; 50] = [0; 50];
     let e = end.0;
     let first = tables::band_of(start);
     let last = tables::band_of(Bin(e - 1));
@@ -307,7 +304,6 @@ fn band_powers(psd: &[i32; 256], latab: &[u8], start: Bin, end: Bin) -> [i32; 50
         out[k] = x;
         k += 1;
     }
-    out
 }
 
 // a less `by`, and not below 0.
@@ -535,12 +531,11 @@ fn excite_step(c: Curve, first: Band, end: Band, bnd: &[i32; 50], k: Band, s: Ca
     step_high(c, p, s)
 }
 
-// The excitation of the bands from first to end.
-fn excitation(c: Curve, first: Band, end: Band, bnd: &[i32; 50], s0: Carried) -> [i32; 50]
-    requires { ⌜ (first .0 ≤ end .0) × (end .0 ≤ 50) × BandPowers (now bnd) × Tame c × Kept s0 ⌝ }
-    ensures { λ r. ⌜ r ≡ exciteOf c (first .0) (end .0) (λ j. getD (now (bnd .entry)) j (pos 0)) s0 (end .0) ⌝ }
+// Puts the excitation of the bands from first to end, into zeros.
+fn excitation(c: Curve, first: Band, end: Band, bnd: &[i32; 50], s0: Carried, out: &mut [i32; 50])
+    requires { ⌜ (first .0 ≤ end .0) × (end .0 ≤ 50) × BandPowers (now bnd) × Tame c × Kept s0 × (now out ≡ replicate 50 (pos 0)) ⌝ }
+    ensures { λ _. ⌜ now (out .exit) ≡ exciteOf c (first .0) (end .0) (λ j. getD (now (bnd .entry)) j (pos 0)) s0 (end .0) ⌝ }
 {
-    let mut out: [i32; 50] = [0; 50];
     let mut s = s0;
     let mut k = first.0;
     let e = end.0;
@@ -550,7 +545,6 @@ fn excitation(c: Curve, first: Band, end: Band, bnd: &[i32; 50], s0: Carried) ->
         out[k] = x;
         k += 1;
     }
-    out
 }
 
 // 6.2.2.5: a band's mask.
@@ -565,7 +559,7 @@ fn mask_at(excite: i32, power: i32, knee: i32, hth: u16) -> i32
     larger(excite, h)
 }
 
-// The masks of the bands from first to end.
+// Puts the masks of the bands from first to end, into zeros.
 fn masks(
     excite: &[i32; 50],
     power: &[i32; 50],
@@ -574,11 +568,11 @@ fn masks(
     fscod: usize,
     first: Band,
     end: Band,
-) -> [i32; 50]
-    requires { do ⌜ ((← ⟦hearing.len()⟧) ≡ 150) × (fscod ≤ 2) × (first .0 ≤ end .0) × (end .0 ≤ 50) × Excitations (now excite) × Sums (now power) × Knee knee ⌝ }
-    ensures { λ r. ⌜ r ≡ masksOf (λ j. getD (now (excite .entry)) j (pos 0)) (λ j. getD (now (power .entry)) j (pos 0)) knee (now (hearing .entry)) fscod (first .0) (end .0) ⌝ }
+    out: &mut [i32; 50],
+)
+    requires { do ⌜ ((← ⟦hearing.len()⟧) ≡ 150) × (fscod ≤ 2) × (first .0 ≤ end .0) × (end .0 ≤ 50) × Excitations (now excite) × Sums (now power) × Knee knee × (now out ≡ replicate 50 (pos 0)) ⌝ }
+    ensures { λ _. ⌜ now (out .exit) ≡ masksOf (λ j. getD (now (excite .entry)) j (pos 0)) (λ j. getD (now (power .entry)) j (pos 0)) knee (now (hearing .entry)) fscod (first .0) (end .0) ⌝ }
 {
-    let mut out: [i32; 50] = [0; 50];
     let mut k = first.0;
     let e = end.0;
     while k < e {
@@ -586,13 +580,6 @@ fn masks(
         out[k] = x;
         k += 1;
     }
-    out
-}
-
-// The masks, and the band after the last segment.
-struct Masked {
-    mask: [i32; 50],
-    band: usize,
 }
 
 // 6.2.2.6: a segment's step, by deltba.
@@ -607,51 +594,43 @@ fn delta_of(ba: u8) -> i32
     128 * (n - 3)
 }
 
-// The masks with the step added to the bands from a to b. Bands past 49 are skipped.
-fn add_segment(mask: [i32; 50], delta: i32, a: usize, b: usize) -> [i32; 50]
-    requires { ⌜ ShiftedMasks mask × Shift delta × (a ≤ b) × (b ≤ 1024) ⌝ }
-    ensures { λ r. ⌜ r ≡ addSegment delta a b mask ⌝ }
+// Adds the step to the masks of the bands from a to b. Bands past 49 are skipped.
+fn add_segment(mask: &mut [i32; 50], delta: i32, a: usize, b: usize)
+    requires { ⌜ ShiftedMasks (now mask) × (length (now mask) ≡ 50) × Shift delta × (a ≤ b) × (b ≤ 1024) ⌝ }
+    ensures { λ _. ⌜ now (mask .exit) ≡ addSegment delta a b (now (mask .entry)) ⌝ }
 {
-    let mut m = mask;
     let mut k = sooner(a, 50);
     let e = sooner(b, 50);
     while k < e {
-        let x = m[k] + delta;
-        m[k] = x;
+        let x = mask[k] + delta;
+        mask[k] = x;
         k += 1;
     }
-    m
 }
 
-// One more segment. It begins where the last one ended.
-fn next_segment(s: Masked, off: u8, len: u8, ba: u8) -> Masked
-    requires { ⌜ ShiftedMasks (s .mask) × (s .band ≤ 512) × (off ≤ 31) × (len ≤ 15) × (ba < 8) ⌝ }
-    ensures { λ r. ⌜ (r .mask ≡ addSegment (deltaOf ba) (s .band + off) (s .band + off + len) (s .mask)) × (r .band ≡ s .band + off + len) ⌝ }
+// One more segment: it begins at the band where the last one ended, and the answer is where it ends.
+fn next_segment(mask: &mut [i32; 50], band: usize, off: u8, len: u8, ba: u8) -> usize
+    requires { ⌜ ShiftedMasks (now mask) × (length (now mask) ≡ 50) × (band ≤ 512) × (off ≤ 31) × (len ≤ 15) × (ba < 8) ⌝ }
+    ensures { λ r. ⌜ (now (mask .exit) ≡ addSegment (deltaOf ba) (band + off) (band + off + len) (now (mask .entry))) × (r ≡ band + off + len) ⌝ }
 {
-    let m = s.mask;
-    let band = s.band;
     let a = band + (off as usize);
     let b = a + (len as usize);
     let d = delta_of(ba);
-    let out = add_segment(m, d, a, b);
-    Masked { mask: out, band: b }
+    add_segment(mask, d, a, b);
+    b
 }
 
-// The masks after the segments, which run from band 0.
-fn deltas(mask: [i32; 50], offs: &[u8; 8], lens: &[u8; 8], bas: &[u8; 8], count: usize) -> Masked
-    requires { ⌜ Masks mask × (count ≤ 8) × Upto 32 (now offs) count × Upto 16 (now lens) count × Upto 8 (now bas) count ⌝ }
-    ensures { λ r. ⌜ (r .mask ≡ deltasOf (now (offs .entry)) (now (lens .entry)) (now (bas .entry)) mask count) × (r .band ≡ segmentEnd (now (offs .entry)) (now (lens .entry)) count) ⌝ }
+// Adds the segments to the masks. They run from band 0.
+fn deltas(mask: &mut [i32; 50], offs: &[u8; 8], lens: &[u8; 8], bas: &[u8; 8], count: usize)
+    requires { ⌜ Masks (now mask) × (length (now mask) ≡ 50) × (count ≤ 8) × Upto 32 (now offs) count × Upto 16 (now lens) count × Upto 8 (now bas) count ⌝ }
+    ensures { λ _. ⌜ now (mask .exit) ≡ deltasOf (now (offs .entry)) (now (lens .entry)) (now (bas .entry)) (now (mask .entry)) count ⌝ }
 {
-    let mut s = Masked {
-        mask: mask,
-        band: 0,
-    };
+    let mut band: usize = 0;
     let mut n: usize = 0;
     while n < count {
-        s = next_segment(s, offs[n], lens[n], bas[n]);
+        band = next_segment(mask, band, offs[n], lens[n], bas[n]);
         n += 1;
     }
-    s
 }
 
 // 6.2.2.7: the mask less the SNR offset and the floor, cut to its bits 5 to 12, and the floor again.
@@ -700,7 +679,7 @@ fn point(out: &mut [u8; 256], baptab: &[u8; 64], psd: &[i32; 256], m: i32, lo: u
     }
 }
 
-// The pointers of the bins from start to end, and 0 elsewhere: band by band, since a band's bins share a mask.
+// Puts the pointers of the bins from start to end, into zeros: band by band, since a band's bins share a mask.
 fn baps(
     baptab: &[u8; 64],
     psd: &[i32; 256],
@@ -709,11 +688,11 @@ fn baps(
     floor: i32,
     start: Bin,
     end: Bin,
-) -> [u8; 256]
-    requires { ⌜ Powers (now psd) × ShiftedMasks (now mask) × Snr snr × Floor floor × (start .0 ≤ end .0) × (end .0 ≤ 253) ⌝ }
-    ensures { λ r. ⌜ r ≡ bapsOf (now (baptab .entry)) (λ j. getD (now (psd .entry)) j (pos 0)) (λ j. getD (now (mask .entry)) j (pos 0)) snr floor (start .0) (end .0) ⌝ }
+    out: &mut [u8; 256],
+)
+    requires { ⌜ Powers (now psd) × ShiftedMasks (now mask) × Snr snr × Floor floor × (start .0 ≤ end .0) × (end .0 ≤ 253) × (now out ≡ zeros) ⌝ }
+    ensures { λ _. ⌜ now (out .exit) ≡ bapsOf (now (baptab .entry)) (λ j. getD (now (psd .entry)) j (pos 0)) (λ j. getD (now (mask .entry)) j (pos 0)) snr floor (start .0) (end .0) ⌝ }
 {
-    let mut out: [u8; 256] = [0; 256];
     let first = tables::band_of(start);
     let mut k = first.0;
     let mut i = start.0;
@@ -722,14 +701,13 @@ fn baps(
         let next = tables::start_of(Band(k + 1));
         let hi = sooner(next.0, e);
         let m = mask_step(mask[k], snr, floor);
-        point(&mut out, baptab, psd, m, i, hi);
+        point(out, baptab, psd, m, i, hi);
         i = hi;
         k += 1;
     }
-    out
 }
 
-// 6.2.2.3 to 6.2.2.5: the masks of a channel's bands.
+// 6.2.2.3 to 6.2.2.5: puts the masks of a channel's bands, into zeros.
 fn channel_masks(
     psd: &[i32; 256],
     latab: &[u8],
@@ -740,20 +718,23 @@ fn channel_masks(
     s0: Carried,
     knee: i32,
     fscod: usize,
-) -> [i32; 50]
-    requires { do ⌜ ((← ⟦latab.len()⟧) ≡ 256) × ((← ⟦hearing.len()⟧) ≡ 150) × (start .0 < end .0) × (end .0 ≤ 253) × (fscod ≤ 2) × Powers (now psd) × Tame c × Kept s0 × Knee knee ⌝ }
-    ensures { λ r. ⌜ (r ≡ masksFrom (now (psd .entry)) (now (latab .entry)) (now (hearing .entry)) (start .0) (end .0) c s0 knee fscod) × Masks r ⌝ }
+    mask: &mut [i32; 50],
+)
+    requires { do ⌜ ((← ⟦latab.len()⟧) ≡ 256) × ((← ⟦hearing.len()⟧) ≡ 150) × (start .0 < end .0) × (end .0 ≤ 253) × (fscod ≤ 2) × Powers (now psd) × Tame c × Kept s0 × Knee knee × (now mask ≡ replicate 50 (pos 0)) ⌝ }
+    ensures { λ _. ⌜ (now (mask .exit) ≡ masksFrom (now (psd .entry)) (now (latab .entry)) (now (hearing .entry)) (start .0) (end .0) c s0 knee fscod) × Masks (now (mask .exit)) ⌝ }
 {
     let e = end.0;
     let first = tables::band_of(start);
     let last = tables::band_of(Bin(e - 1));
     let stop = Band(last.0 + 1);
-    let power = band_powers(psd, latab, start, end);
-    let excite = excitation(c, first, stop, &power, s0);
-    masks(&excite, &power, knee, hearing, fscod, first, stop)
+    let mut power: [i32; 50] = [0; 50];
+    let mut excite: [i32; 50] = [0; 50];
+    band_powers(psd, latab, start, end, &mut power);
+    excitation(c, first, stop, &power, s0, &mut excite);
+    masks(&excite, &power, knee, hearing, fscod, first, stop, mask);
 }
 
-// 6.2.2.2 to 6.2.2.7: the pointers of a channel.
+// 6.2.2.2 to 6.2.2.7: puts the pointers of a channel, into zeros.
 fn pointers_of(
     exp: &[u8; 256],
     latab: &[u8],
@@ -765,9 +746,10 @@ fn pointers_of(
     s0: Carried,
     v: Levels,
     d: Delta,
-) -> [u8; 256]
-    requires { do ⌜ ((← ⟦latab.len()⟧) ≡ 256) × ((← ⟦hearing.len()⟧) ≡ 150) × (start .0 < end .0) × (end .0 ≤ 253) × (upto 24 (now exp) (start .0) (end .0 - start .0) ≡ true) × Tame c × Kept s0 × Level v × Segments d ⌝ }
-    ensures { λ r. ⌜ r ≡ pointersOf (now (exp .entry)) (now (latab .entry)) (now (hearing .entry)) (now (baptab .entry)) (start .0) (end .0) c s0 v d ⌝ }
+    out: &mut [u8; 256],
+)
+    requires { do ⌜ ((← ⟦latab.len()⟧) ≡ 256) × ((← ⟦hearing.len()⟧) ≡ 150) × (start .0 < end .0) × (end .0 ≤ 253) × (upto 24 (now exp) (start .0) (end .0 - start .0) ≡ true) × Tame c × Kept s0 × Level v × Segments d × (now out ≡ zeros) ⌝ }
+    ensures { λ _. ⌜ now (out .exit) ≡ pointersOf (now (exp .entry)) (now (latab .entry)) (now (hearing .entry)) (now (baptab .entry)) (start .0) (end .0) c s0 v d ⌝ }
 {
     let a = start.0;
     let e = end.0;
@@ -779,11 +761,12 @@ fn pointers_of(
     let lens = d.len;
     let bas = d.ba;
     let count = d.count as usize;
-    let psd = powers(exp, a, e);
-    let mask = channel_masks(&psd, latab, hearing, start, end, c, s0, knee, fscod);
-    let m = deltas(mask, &offs, &lens, &bas, count);
-    let masked = m.mask;
-    baps(baptab, &psd, &masked, snr, floor, start, end)
+    let mut psd: [i32; 256] = [0; 256];
+    let mut m: [i32; 50] = [0; 50];
+    powers(exp, a, e, &mut psd);
+    channel_masks(&psd, latab, hearing, start, end, c, s0, knee, fscod, &mut m);
+    deltas(&mut m, &offs, &lens, &bas, count);
+    baps(baptab, &psd, &m, snr, floor, start, end, out);
 }
 
 // A refusal: zeros.
@@ -829,8 +812,9 @@ fn channel(
     if !tables::all_upto(exp, a, e, 24) {
         return refused(Why::ExponentOutside);
     }
-    let baptab = tables::table_of(which);
-    let bap = pointers_of(exp, latab, hearing, &baptab, start, end, c, s0, v, d);
+    let tab = tables::table_of(which);
+    let mut bap: [u8; 256] = [0; 256];
+    pointers_of(exp, latab, hearing, &tab, start, end, c, s0, v, d, &mut bap);
     Allocated {
         answer: Ended::Done,
         bap: bap,

@@ -1,7 +1,7 @@
 -- `alloc::band_powers` meets its contract: each turn fills one band's place.
 -- Assumes nothing.
 use Prim.Native.Nat.{ℕ, _<_, _≤_, _+_, _-_}
-use mathlib.Core.Path.{_≡_, ap, sym, subst, _∙_}
+use mathlib.Core.Path.{_≡_, ap, sym, _∙_}
 use mathlib.Core.List.{List}
 use native.Mathlib.Omega.{arith}
 use lib.ListN.{getD, set}
@@ -9,7 +9,6 @@ use lib.IntN.{ℤ, pos}
 use mir.Syntax.{w32}
 use mir.Val.{SFits}
 use mir.Facts.{toZ-ofZ}
-use Rattle.alloc.specs.Table.{from, table, inside}
 use Rattle.tables.specs.Bands.{bandOf}
 use Rattle.alloc.specs.Clauses.{bandPower, bandPowers}
 use Rattle.alloc.proofs.TableLaws.{fill-start, fill-turn}
@@ -30,12 +29,15 @@ add-stop c =
     omega (arith, band-below (a .end .0 - 1) (omega arith), c .before .band-of2 .ensures)
 
 loop-holds : tie.Need-loop-holds Inv-loop μ-loop
-unfolding bandPowers from
+unfolding bandPowers
 loop-holds c =
-    let a = c .before .before .before .before .args in
+    let s = c .before .before .before .before in
+    let a = s .args in
     let m = band-mono (a .start .0) (a .end .0 - 1) (omega arith) (omega arith) in
     let e = c .before .before .band-of .ensures in (
-      subst (λ (i : ℕ). table 50 (λ k. pos 0) ≡ table 50 (inside (bandOf (a .start .0)) i (pos 0) (bandPower (a .latab .now) (λ (j : ℕ). getD (a .psd .now) j (pos 0)) (a .start .0) (a .end .0)))) (sym e) (fill-start 50 (bandOf (a .start .0)) (pos 0) (bandPower (a .latab .now) (λ (j : ℕ). getD (a .psd .now) j (pos 0)) (a .start .0) (a .end .0))),
+      s .pre .4
+          ∙ fill-start 50 (bandOf (a .start .0)) (pos 0) (bandPower (a .latab .now) (λ (j : ℕ). getD (a .psd .now) j (pos 0)) (a .start .0) (a .end .0))
+          ∙ ap (bandPowers (a .latab .now) (λ (j : ℕ). getD (a .psd .now) j (pos 0)) (a .start .0) (a .end .0)) (sym e),
       omega arith,
       omega arith,
     )
@@ -54,11 +56,11 @@ band-power-requires c κs =
     let s = c .before .before .before .before .before .before in
     (s .pre .0, s .pre .1, s .pre .2, s .pre .3, c .before .loop .inv .1, below c)
 
-mul-out : tie.Need-mul-out Inv-loop μ-loop
-mul-out c = omega (arith, small (c .before))
+mul-x : tie.Need-mul-x Inv-loop μ-loop
+mul-x c = omega (arith, small (c .before))
 
-array-set-from-out : tie.Need-array-set-from-out Inv-loop μ-loop
-array-set-from-out c = small (c .before)
+element-set-from-x : tie.Need-element-set-from-x Inv-loop μ-loop
+element-set-from-x c = small (c .before)
 
 add-k : tie.Need-add-k Inv-loop μ-loop
 add-k c = omega (arith, small (c .before))
@@ -98,8 +100,8 @@ band-powers-spec =
     add-stop
     loop-holds
     band-power-requires
-    mul-out
-    array-set-from-out
+    mul-x
+    element-set-from-x
     add-k
     loop-less
     loop-again

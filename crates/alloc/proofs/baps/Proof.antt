@@ -12,7 +12,6 @@ use Rattle.tables.specs.Numbers.{Within}
 use Rattle.tables.specs.Bands.{bandStart, bandOf}
 use Rattle.tables.proofs.Signed.{within-fits, widen}
 use Rattle.tables.proofs.BandLaws.{band-below, band-low, band-high, band-is, start-next, start-below}
-use Rattle.alloc.specs.Table.{from}
 use Rattle.alloc.specs.Clauses.{bapsOf, bapAt, maskStep, pointed}
 use Rattle.alloc.proofs.TableLaws.{fill-start}
 use Rattle.alloc.proofs.RangeLaws.{maskStep-within}
@@ -30,10 +29,10 @@ abbrev μ-loop : tie.MeasureT-loop
 μ-loop baptab psd mask snr floor out₀ k₀ i₀ e out k i = e - i
 
 loop-holds : tie.Need-loop-holds Inv-loop μ-loop
-unfolding bapsOf from
+unfolding bapsOf
 loop-holds c =
     let a = c .before .args in (
-      fill-start 256 (a .start .0) 0 (bapAt (a .baptab .now) (λ (j : ℕ). getD (a .psd .now) j (pos 0)) (λ (j : ℕ). getD (a .mask .now) j (pos 0)) (toZ w32 (ofZ w32 (a .snr))) (toZ w32 (ofZ w32 (a .floor)))),
+      c .before .pre .6 ∙ fill-start 256 (a .start .0) 0 (bapAt (a .baptab .now) (λ (j : ℕ). getD (a .psd .now) j (pos 0)) (λ (j : ℕ). getD (a .mask .now) j (pos 0)) (toZ w32 (ofZ w32 (a .snr))) (toZ w32 (ofZ w32 (a .floor)))),
       omega arith,
       omega arith,
       λ h. sym (c .band-of .ensures),

@@ -1,7 +1,7 @@
 -- `alloc::channel` meets its contract: the cases of the definition, in its order.
 -- Assumes nothing.
 use Prim.Native.Nat.{ℕ, _-_}
-use mathlib.Core.Path.{_≡_, sym, _∙_, ap}
+use mathlib.Core.Path.{_≡_, refl, sym, _∙_, ap}
 use mathlib.Core.Bool.{true}
 use mathlib.Core.List.{List}
 use borrow.Author.Needs.{needs}
@@ -42,16 +42,16 @@ returns-3 c =
 
 pointers-of-requires : tie.Need-pointers-of-requires
 pointers-of-requires c κs =
-    let e = c .before .before in
+    let e = c .before .before .before in
     let p = e .before .before .before .before .before .before .before .pre in
-    (p .0, p .1, e .before .before .before .before .if1 .left, e .before .before .before .if2 .left, within e, p .2, p .3, p .4, p .5)
+    (p .0, p .1, e .before .before .before .before .if1 .left, e .before .before .before .if2 .left, within e, p .2, p .3, p .4, p .5, refl)
 
 returns-4 : tie.Need-returns-4
 returns-4 c =
-    let e = c .before .before .before in
+    let e = c .before .before .before .before in
     let a = e .before .before .before .before .before .before .before .args in
     let by : List ℕ → List ℕ = λ t. pointersOf (a .exp .now) (a .latab .now) (a .hearing .now) t (a .start .0) (a .end .0) (a .c) (a .s0) (a .v) (a .d) in
-    ap (λ (l : List ℕ). filled (taken l)) (c .pointers-of .ensures ∙ ap by (c .before .before .table-of .ensures))
+    ap (λ (l : List ℕ). filled (taken l)) (c .pointers-of .ensures ∙ ap by (c .before .before .before .table-of .ensures))
     ∙ ap (λ x. filled x)
     (channel-done (a .exp .now) (a .start .0) (a .end .0) (a .c) (a .v) (a .s0) (a .d) (a .which) (a .hearing .now) (a .latab .now) (e .before .before .before .before .if1 .left) (e .before .before .before .if2 .left) (within e))
 

@@ -8,7 +8,6 @@ use lib.ListN.{getD, set}
 use lib.IntN.{ℤ, pos}
 use mir.Facts.{toZ-ofZ}
 use Rattle.alloc.specs.declared.Carried.{Carried}
-use Rattle.alloc.specs.Table.{from}
 use Rattle.alloc.specs.Excite.{step, leakAt, exciteAt, exciteOf}
 use Rattle.alloc.specs.Ranges.{Kept}
 use Rattle.tables.proofs.Signed.{within-fits}
@@ -28,10 +27,10 @@ abbrev μ-loop : tie.MeasureT-loop
 μ-loop c first end bnd out₀ s₀ k₀ e out s k = end .0 - k
 
 loop-holds : tie.Need-loop-holds Inv-loop μ-loop
-unfolding exciteOf from
+unfolding exciteOf
 loop-holds c =
     let a = c .args in (
-      fill-start 50 (a .first .0) (pos 0) (exciteAt (a .c) (a .first .0) (a .end .0) (λ (j : ℕ). getD (a .bnd .now) j (pos 0)) (a .s0)),
+      c .pre .5 ∙ fill-start 50 (a .first .0) (pos 0) (exciteAt (a .c) (a .first .0) (a .end .0) (λ (j : ℕ). getD (a .bnd .now) j (pos 0)) (a .s0)),
       sym (leakAt-first (a .c) (a .first .0) (a .end .0) (λ (j : ℕ). getD (a .bnd .now) j (pos 0)) (a .s0)),
       omega arith,
       omega arith,

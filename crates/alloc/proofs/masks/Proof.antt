@@ -9,7 +9,6 @@ use lib.IntN.{ℤ, pos}
 use mir.Syntax.{w32}
 use mir.Val.{SFits, toZ, ofZ}
 use mir.Facts.{toZ-ofZ}
-use Rattle.alloc.specs.Table.{from}
 use Rattle.alloc.specs.Clauses.{maskAt, masksOf}
 use Rattle.tables.proofs.Signed.{within-fits}
 use Rattle.alloc.proofs.TableLaws.{fill-start}
@@ -25,10 +24,10 @@ abbrev μ-loop : tie.MeasureT-loop
 μ-loop excite power knee hearing fscod out₀ k₀ e out k = e - k
 
 loop-holds : tie.Need-loop-holds Inv-loop μ-loop
-unfolding masksOf from
+unfolding masksOf
 loop-holds c =
     let a = c .before .args in (
-      fill-start 50 (a .first .0) (pos 0) (λ (k : ℕ). maskAt (getD (a .excite .now) k (pos 0)) (getD (a .power .now) k (pos 0)) (toZ w32 (ofZ w32 (a .knee))) (getD (a .hearing .now) (50 * a .fscod + k) 0)),
+      c .before .pre .7 ∙ fill-start 50 (a .first .0) (pos 0) (λ (k : ℕ). maskAt (getD (a .excite .now) k (pos 0)) (getD (a .power .now) k (pos 0)) (toZ w32 (ofZ w32 (a .knee))) (getD (a .hearing .now) (50 * a .fscod + k) 0)),
       omega arith,
       omega arith,
     )

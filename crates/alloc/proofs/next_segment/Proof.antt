@@ -13,15 +13,17 @@ use Rattle.alloc.proofs.next_segment.Tie as tie
 
 add-segment-requires : tie.Need-add-segment-requires
 add-segment-requires c κs =
-    let s = c .before .before in
-    let f : SFits w32 (c .delta-of .result) = record { sfits = c .delta-of .ok } in
-    let d = subst (Within 512 512) (sym (c .delta-of .ensures)) (delta-within (s .args .ba) (s .pre .4)) in
-    (s .pre .0, rw (toZ-ofZ f) d, omega arith, omega arith)
+    let d = c .before in
+    let s = d .before in
+    let f : SFits w32 (d .delta-of .result) = record { sfits = d .delta-of .ok } in
+    let w = subst (Within 512 512) (sym (d .delta-of .ensures)) (delta-within (s .args .ba) (s .pre .5)) in
+    (s .pre .0, s .pre .1, rw (toZ-ofZ f) w, omega arith, omega arith)
 
 returns : tie.Need-returns
 returns c =
-    let f : SFits w32 (c .before .delta-of .result) = record { sfits = c .before .delta-of .ok } in
-    (rw (← c .before .delta-of .ensures) (rw (toZ-ofZ f) at (c .add-segment .ensures)), omega arith)
+    let d = c .before .before in
+    let f : SFits w32 (d .delta-of .result) = record { sfits = d .delta-of .ok } in
+    (rw (← d .delta-of .ensures) (rw (toZ-ofZ f) at (c .add-segment .ensures)), omega arith)
 
 pub next-segment-spec : {M : Type 1} → statement M
 next-segment-spec =

@@ -9,7 +9,6 @@ use lib.IntN.{ℤ, pos}
 use mir.Syntax.{w32}
 use mir.Val.{SFits}
 use mir.Facts.{toZ-ofZ}
-use Rattle.alloc.specs.Table.{from}
 use Rattle.alloc.specs.Clauses.{powersOf, psdOf}
 use Rattle.alloc.proofs.TableLaws.{fill-turn, fill-start}
 use Rattle.alloc.proofs.powers.Statement.{statement}
@@ -22,8 +21,8 @@ abbrev μ-loop : tie.MeasureT-loop
 μ-loop exp start end psd₀ i₀ psd i = end - i
 
 loop-holds : tie.Need-loop-holds Inv-loop μ-loop
-unfolding powersOf from
-loop-holds c = (fill-start 256 (c .args .start) (pos 0) (λ i. psdOf (getD (c .args .exp .now) i 0)), omega arith, omega arith)
+unfolding powersOf
+loop-holds c = (c .pre .2 ∙ fill-start 256 (c .args .start) (pos 0) (λ i. psdOf (getD (c .args .exp .now) i 0)), omega arith, omega arith)
 
 loop-again : tie.Need-loop-again Inv-loop μ-loop
 unfolding powersOf
