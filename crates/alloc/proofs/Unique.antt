@@ -1,15 +1,16 @@
 -- Any two results that the contract of `allocate` allows are equal.
 -- Assumes nothing.
-use mathlib.Core.Path.{_≡_, refl, ap}
-use mathlib.Core.List.{List}
-use Prim.Native.Nat.{ℕ}
-use Rattle.refusal.specs.Refusals.{Outcome, taken, refused, Ran}
-use Rattle.refusal.proofs.Unique.{refusalOf, refusal-back, one-answer}
-use Rattle.refusal.proofs.Decides.{Decides}
+use mathlib.Core.Path.{_≡_, refl, sym, ap, _∙_}
+use contract.Lifetimes.{Lfts}
+use borrow.Fn.Kinds.{Dens}
+use borrow.Fn.Kinds as kinds
+use denote.Triple.Clauses.{AtExit}
+use denote.Ref.{now}
+use Rattle.refusal.specs.Refusals.{Outcome, taken, refused}
+use Rattle.refusal.proofs.Unique.{refusalOf, refusal-back}
 use Rattle.alloc.specs.declared.Ended.{Ended}
 use Rattle.alloc.specs.declared.Ended.the-variants as ended
-use Rattle.alloc.specs.declared.Allocated.{Allocated}
-use Rattle.alloc.specs.Answers.{endedOf, allocatedOf}
+use Rattle.alloc.specs.Answers.{endedOf}
 use Rattle.alloc.proofs.allocate.Kinds as allocate-kinds
 use Rattle.alloc.proofs.allocate.Reads as allocate-reads
 
@@ -22,12 +23,9 @@ pub ended-back : (a : Ended) → endedBack (endedOf a) ≡ a
 ended-back ended.Done = refl
 ended-back (ended.Refused r) = ap ended.Refused (refusal-back r)
 
-abbrev pub allocatedBack : Ran (List ℕ) Unit → Allocated
-allocatedBack w = record { answer = endedBack (w .outcome); bap = w .state }
-
-pub allocated-back : (r : Allocated) → allocatedBack (allocatedOf r) ≡ r
-allocated-back r = ap (λ (a : Ended). record { answer = a; bap = r .bap }) (ended-back (r .answer))
-
--- any two results that the contract allows are equal; the contract is read from the code
-pub allocate-one : Decides 3 allocate-kinds.ps allocate-kinds.r allocate-reads.Post
-allocate-one κs a x y s t = one-answer allocatedOf allocatedBack allocated-back x y
+-- any two answers that the contract allows are equal, and so are the pointers at exit; the contract is read from the code
+pub allocate-one : (κs : Lfts 4) (a : Dens κs allocate-kinds.ps) (x y : Ended) (s t : AtExit (kinds.endedOf 4 allocate-kinds.ps allocate-kinds.r) κs)
+    → allocate-reads.Post κs a x s → allocate-reads.Post κs a y t → (x ≡ y) × (now (s .1 .1 .1 .1 .1 .1 .1 .1 .1 .0) ≡ now (t .1 .1 .1 .1 .1 .1 .1 .1 .1 .0))
+allocate-one κs a x y s t p q =
+    let e = p ∙ sym q in
+    (sym (ended-back x) ∙ ap (λ w. endedBack (w .outcome)) e ∙ ended-back y, ap (λ w. w .state) e)

@@ -8,7 +8,6 @@ use lib.Dec.{ltb, leb}
 use Rattle.refusal.specs.Refusals.{Outcome, taken, told, refuseIf, andThen, Ran, leaves}
 use Rattle.alloc.specs.declared.Ended.{Ended}
 use Rattle.alloc.specs.declared.Ended.the-variants as ended
-use Rattle.alloc.specs.declared.Allocated.{Allocated}
 use Rattle.alloc.specs.declared.Codes.{Codes}
 use Rattle.alloc.specs.declared.Leak.{Leak}
 use Rattle.tables.specs.declared.Delta.{Delta}
@@ -28,8 +27,8 @@ endedOf ended.Done = taken tt
 endedOf (ended.Refused r) = told r
 
 -- with the pointers beside it
-abbrev pub allocatedOf : Allocated → Ran (List ℕ) Unit
-allocatedOf r = record { outcome = endedOf (r .answer); state = r .bap }
+abbrev pub allocatedOf : Ended → List ℕ → Ran (List ℕ) Unit
+allocatedOf r bap = record { outcome = endedOf r; state = bap }
 
 -- a channel with its parameters decoded: the empty range, 6, 8, and the pointers
 unfoldable pub channelOf : List ℕ → ℕ → ℕ → Curve → Levels → Carried → Delta → Pointers → List ℕ → List ℕ → Outcome (List ℕ)

@@ -22,7 +22,7 @@ ghost use Rattle.alloc.specs.Clauses.{logadd as logaddOf, rises as rises
 ghost use Rattle.alloc.specs.Excite.{decayed, stepFirst, stepBegin, stepLow, stepHigh, stepFull, lowNext, step, exciteOf};
 ghost use Rattle.alloc.specs.Ranges.{Power, Powers, BandPowers, Sum, Sums, Excited, Excitations, Low, Gain, Knee, Floor, Snr, Masks, ShiftedMask, ShiftedMasks, Shift, Cut, Tame, Kept, Level, Segments};
 ghost use Rattle.alloc.specs.Channel.{masksFrom, pointersOf};
-ghost use Rattle.alloc.specs.Answers.{allocatedOf, channelOf, filled, allocateOf};
+ghost use Rattle.alloc.specs.Answers.{endedOf, allocatedOf, channelOf, filled, allocateOf};
 
 // The side information of a channel by its names in TS, not yet decoded.
 pub struct Codes {
@@ -47,12 +47,6 @@ pub enum Leak {
 pub enum Ended {
     Done,
     Refused(Refusal),
-}
-
-// The pointers of 256 bins, zero outside the asked range and on refusal.
-pub struct Allocated {
-    pub answer: Ended,
-    pub bap: [u8; 256],
 }
 
 // The decays and gains of a channel.
@@ -769,19 +763,15 @@ fn pointers_of(
     baps(baptab, &psd, &m, snr, floor, start, end, out);
 }
 
-// A refusal: zeros.
-fn refused(why: Why) -> Allocated
-    ensures { λ r. ⌜ allocatedOf r ≡ filled (refusedOf (grounds (numberOf why) 0)) ⌝ }
+// A channel that is refused.
+fn refused(why: Why) -> Ended
+    ensures { λ r. ⌜ endedOf r ≡ refusedOf (grounds (numberOf why) 0) ⌝ }
 {
-    let zeros: [u8; 256] = [0; 256];
     let r = Refusal { why: why, bit: 0 };
-    Allocated {
-        answer: Ended::Refused(r),
-        bap: zeros,
-    }
+    Ended::Refused(r)
 }
 
-// A channel whose parameters are decoded.
+// A channel whose parameters are decoded, into zeros.
 fn channel(
     exp: &[u8; 256],
     start: Bin,
@@ -793,18 +783,15 @@ fn channel(
     which: Pointers,
     hearing: &[u16],
     latab: &[u8],
-) -> Allocated
-    requires { do ⌜ ((← ⟦latab.len()⟧) ≡ 256) × ((← ⟦hearing.len()⟧) ≡ 150) × Tame c × Kept s0 × Level v × Segments d ⌝ }
-    ensures { λ r. ⌜ allocatedOf r ≡ filled (channelOf (now (exp .entry)) (start .0) (end .0) c v s0 d which (now (hearing .entry)) (now (latab .entry))) ⌝ }
+    bap: &mut [u8; 256],
+) -> Ended
+    requires { do ⌜ ((← ⟦latab.len()⟧) ≡ 256) × ((← ⟦hearing.len()⟧) ≡ 150) × Tame c × Kept s0 × Level v × Segments d × (now bap ≡ zeros) ⌝ }
+    ensures { λ r. ⌜ allocatedOf r (now (bap .exit)) ≡ filled (channelOf (now (exp .entry)) (start .0) (end .0) c v s0 d which (now (hearing .entry)) (now (latab .entry))) ⌝ }
 {
     let a = start.0;
     let e = end.0;
     if e <= a {
-        let zeros: [u8; 256] = [0; 256];
-        return Allocated {
-            answer: Ended::Done,
-            bap: zeros,
-        };
+        return Ended::Done;
     }
     if e > 253 {
         return refused(Why::BadArgument);
@@ -812,17 +799,13 @@ fn channel(
     if !tables::all_upto(exp, a, e, 24) {
         return refused(Why::ExponentOutside);
     }
-    let tab = tables::table_of(which);
-    let mut bap: [u8; 256] = [0; 256];
-    pointers_of(exp, latab, hearing, &tab, start, end, c, s0, v, d, &mut bap);
-    Allocated {
-        answer: Ended::Done,
-        bap: bap,
-    }
+    let baptab = tables::table_of(which);
+    pointers_of(exp, latab, hearing, &baptab, start, end, c, s0, v, d, bap);
+    Ended::Done
 }
 
-// The pointers of one channel alone: 21 for unfit tables, 11 for a code past its table, zeros for an empty range, 6 for an end above 253,
-// 8 for an exponent above 24.
+// Puts the pointers of one channel alone, and zeros outside the range and on refusal: 21 for unfit tables, 11 for a code past its table,
+// zeros for an empty range, 6 for an end above 253, 8 for an exponent above 24.
 pub fn allocate(
     exp: &[u8; 256],
     start: Bin,
@@ -832,11 +815,14 @@ pub fn allocate(
     delta: Delta,
     which: Pointers,
     hearing: &[u16],
-    log_add: &[u8],
-) -> Allocated
-    ensures { λ r. ⌜ allocatedOf r ≡ allocateOf (now (exp .entry)) (start .0) (end .0) codes leak delta which (now (hearing .entry)) (now («log_add» .entry)) ⌝ }
+    latab: &[u8],
+    bap: &mut [u8; 256],
+) -> Ended
+    ensures { λ r. ⌜ allocatedOf r (now (bap .exit)) ≡ allocateOf (now (exp .entry)) (start .0) (end .0) codes leak delta which (now (hearing .entry)) (now (latab .entry)) ⌝ }
 {
-    if !tables::tables_fit(hearing, log_add) {
+    let zeros: [u8; 256] = [0; 256];
+    *bap = zeros;
+    if !tables::tables_fit(hearing, latab) {
         return refused(Why::BadTables);
     }
     let x = curve_of(codes);
@@ -854,5 +840,5 @@ pub fn allocate(
     if !tables::delta_fits(delta) {
         return refused(Why::CodePastTable);
     }
-    channel(exp, start, end, c, v, s, delta, which, hearing, log_add)
+    channel(exp, start, end, c, v, s, delta, which, hearing, latab, bap)
 }

@@ -16,7 +16,6 @@ use Rattle.tables.specs.Pointers.{pointersBy}
 use Rattle.tables.specs.Fits.{tablesFit, deltaFits}
 use Rattle.alloc.specs.declared.Ended.{Ended}
 use Rattle.alloc.specs.declared.Ended.the-variants as ended
-use Rattle.alloc.specs.declared.Allocated.{Allocated}
 use Rattle.alloc.specs.declared.Codes.{Codes}
 use Rattle.alloc.specs.declared.Leak.{Leak}
 use Rattle.alloc.specs.Params.{curveOf, levelsOf, startOf}
@@ -24,25 +23,21 @@ use Rattle.alloc.specs.Answers.{filled, endedOf, allocatedOf, channelOf, alloca
 use Rattle.blocks.specs.declared.AllocState.{AllocState}
 use Rattle.blocks.specs.Block.{Slot, codesFit, quiet, noDelta, codesAt, leakAt, deltaAt, uncovered, lacksLeak, stateOf, slotOf, slotsFrom, silence, filledSlots, allocateBlockOf}
 
--- what a call comes to, by its parts
-pub ran-is : {S : Type 0} {o p : Outcome Unit} {a b : S} → o ≡ p → a ≡ b → _≡_ {A = Ran S Unit} (record { outcome = o; state = a }) (record { outcome = p; state = b })
-ran-is e f = λ i. record { outcome = e i; state = f i }
-
 -- the pointers of a slot, with what is told of them, and back
 filled-back : (o : Outcome (List ℕ)) → stateOf (filled o) ≡ o
 filled-back (taken bap) = refl
 filled-back (refused g) = refl
 
 -- what a slot's answer says of what it comes to
-module _ (r : Allocated) {o : Outcome (List ℕ)} (e : allocatedOf r ≡ filled o) where
-  slot-is : o ≡ andThen (endedOf (r .answer)) (λ _. taken (r .bap))
+module _ (r : Ended) (bap : List ℕ) {o : Outcome (List ℕ)} (e : allocatedOf r bap ≡ filled o) where
+  slot-is : o ≡ andThen (endedOf r) (λ _. taken bap)
   slot-is = sym (filled-back o) ∙ sym (ap (λ x. stateOf x) e)
 
-  pub slot-taken : r .answer ≡ ended.Done → o ≡ taken (r .bap)
-  slot-taken d = slot-is ∙ ap (λ (a : Ended). andThen (endedOf a) (λ _. taken (r .bap))) d
+  pub slot-taken : r ≡ ended.Done → o ≡ taken bap
+  slot-taken d = slot-is ∙ ap (λ (a : Ended). andThen (endedOf a) (λ _. taken bap)) d
 
-  pub slot-refused : {g : Refusal} → r .answer ≡ ended.Refused g → o ≡ told g
-  slot-refused d = slot-is ∙ ap (λ (a : Ended). andThen (endedOf a) (λ _. taken (r .bap))) d
+  pub slot-refused : {g : Refusal} → r ≡ ended.Refused g → o ≡ told g
+  slot-refused d = slot-is ∙ ap (λ (a : Ended). andThen (endedOf a) (λ _. taken bap)) d
 
 -- the segments of a slot that is not LFE
 pub delta-own : (st : AllocState) (i : ℕ) (d : Delta) → (i ≡ 6 → ⊥) → i < length (st .delta) → getD (st .delta) i d ≡ deltaAt st i

@@ -1,6 +1,5 @@
 // Side information and block allocation (TS 6.2.2; document 01, "Allocation"): what the blocks of a frame carry on, and the pointers of all
 // slots of a block.
-use alloc::Allocated;
 use alloc::Codes;
 use alloc::Ended;
 use alloc::Leak;
@@ -260,7 +259,7 @@ fn refused_slot(why: Why) -> Ended
     Ended::Refused(r)
 }
 
-// A slot's channel alone.
+// A slot's channel alone, into its row.
 fn channel_of(
     state: AllocState,
     fscod: u8,
@@ -271,15 +270,27 @@ fn channel_of(
     end: Bin,
     hearing: &[u16],
     log_add: &[u8],
-) -> Allocated
+    row: &mut [u8; 256],
+) -> Ended
     requires { ⌜ i < slotCount ⌝ }
-    ensures { λ r. ⌜ allocatedOf r ≡ allocateOf (now (exp .entry)) (start .0) (end .0) (codesAt state fscod i) (leakAt state i) (deltaAt state i) (pointersBy high) (now (hearing .entry)) (now («log_add» .entry)) ⌝ }
+    ensures { λ r. ⌜ allocatedOf r (now (row .exit)) ≡ allocateOf (now (exp .entry)) (start .0) (end .0) (codesAt state fscod i) (leakAt state i) (deltaAt state i) (pointersBy high) (now (hearing .entry)) (now («log_add» .entry)) ⌝ }
 {
     let codes = codes_of(state, fscod, i);
     let leak = leak_of(state, i);
     let delta = delta_of(state, i);
     let which = tables::pointers_by(high);
-    alloc::allocate(exp, start, end, codes, leak, delta, which, hearing, log_add)
+    alloc::allocate(
+        exp,
+        start,
+        end,
+        codes,
+        leak,
+        delta,
+        which,
+        hearing,
+        log_add,
+        row,
+    )
 }
 
 // One slot, into its row of zeros: 12 where its exponents don't cover the range, 10 for a leak not sent, then the channel alone.
@@ -296,7 +307,7 @@ fn fill_slot(
     row: &mut [u8; 256],
 ) -> Ended
     requires { ⌜ (i < slotCount) × (now row ≡ zeros) ⌝ }
-    ensures { λ r. ⌜ allocatedOf (record { answer = r; bap = now (row .exit) }) ≡ filled (slotOf state fscod (now (hearing .entry)) (now («log_add» .entry)) i (slotBy present high (now (exp .entry)) range)) ⌝ }
+    ensures { λ r. ⌜ allocatedOf r (now (row .exit)) ≡ filled (slotOf state fscod (now (hearing .entry)) (now («log_add» .entry)) i (slotBy present high (now (exp .entry)) range)) ⌝ }
 {
     if !present {
         return Ended::Done;
@@ -309,12 +320,9 @@ fn fill_slot(
     if lacks {
         return refused_slot(Why::NotSent);
     }
-    let start = Bin(range[2]);
-    let end = Bin(range[3]);
-    let one = channel_of(state, fscod, i, high, exp, start, end, hearing, log_add);
-    let bap = one.bap;
-    *row = bap;
-    one.answer
+    let a = Bin(range[2]);
+    let e = Bin(range[3]);
+    channel_of(state, fscod, i, high, exp, a, e, hearing, log_add, row)
 }
 
 // Zeros for every slot.

@@ -318,7 +318,7 @@ pub extern "C" fn zela_allocate(
     let side = codes_from(codes);
     let leak = leak_from(has_leak, cplfleak, cplsleak);
     let delta = delta_from(segments, offset, length, ba);
-    let r = alloc::allocate(
+    let answer = alloc::allocate(
         exponents,
         Bin(start),
         Bin(end),
@@ -328,9 +328,7 @@ pub extern "C" fn zela_allocate(
         tables::pointers_by(high),
         hearing,
         log_add,
+        bap,
     );
-    let found = r.bap;
-    *bap = found;
-    let answer = r.answer;
     ended(answer, bit)
 }

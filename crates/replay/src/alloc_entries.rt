@@ -19,7 +19,8 @@ pub fn allocate(first: &mut [u8], second: &[u8], hearing: &[u32], args: Row) -> 
     lent::take(first, 0, &mut exponents);
     let mut halves = [0u16; words::ROOM];
     let count = narrow(hearing, &mut halves);
-    let found = alloc::allocate(
+    let mut bap = [0u8; 256];
+    let answer = alloc::allocate(
         &exponents,
         Bin(args[0]),
         Bin(args[1]),
@@ -29,10 +30,9 @@ pub fn allocate(first: &mut [u8], second: &[u8], hearing: &[u32], args: Row) -> 
         tables::pointers_by(args[39] == 1),
         &halves[..count],
         second,
+        &mut bap,
     );
-    let bap = found.bap;
-    lent::lay(&bap, first, 0);
-    let answer = found.answer;
+    lent::lay_channel(&bap, first, 0);
     match answer {
         Ended::Done => told::taken(0),
         Ended::Refused(r) => told::refused(r),

@@ -11,7 +11,7 @@ use Rattle.refusal.specs.Refusals.{taken}
 use Rattle.tables.specs.Fits.{upto}
 use Rattle.alloc.specs.Answers.{filled}
 use Rattle.alloc.specs.Channel.{pointersOf}
-use Rattle.alloc.proofs.Cases.{channel-empty, channel-6, channel-8, channel-done}
+use Rattle.alloc.proofs.Cases.{ran-is, channel-empty, channel-6, channel-8, channel-done}
 use Rattle.alloc.proofs.channel.Statement.{statement}
 use Rattle.alloc.proofs.channel.Tie as tie
 
@@ -22,21 +22,26 @@ within c = sym (c .before .all-upto .ensures) ∙ not-false (c .before .all-upto
 
 returns : tie.Need-returns
 returns c =
-    let a = c .before .before .before .args in ap (λ x. filled x)
+    let s = c .before .before .before in
+    let a = s .args in
+    ran-is refl (s .pre .6)
+    ∙ ap (λ x. filled x)
     (channel-empty (a .exp .now) (a .start .0) (a .end .0) (a .c) (a .v) (a .s0) (a .d) (a .which) (a .hearing .now) (a .latab .now) (c .if1 .taken))
 
 returns-2 : tie.Need-returns-2
 returns-2 c =
-    let a = c .before .before .before .before .before .args in
-    c .refused .ensures
+    let s = c .before .before .before .before .before in
+    let a = s .args in
+    ran-is (c .refused .ensures) (s .pre .6)
     ∙ ap (λ x. filled x)
     (channel-6 (a .exp .now) (a .start .0) (a .end .0) (a .c) (a .v) (a .s0) (a .d) (a .which) (a .hearing .now) (a .latab .now) (c .before .before .if1 .left) (c .before .if2 .taken))
 
 returns-3 : tie.Need-returns-3
 returns-3 c =
-    let a = c .before .before .before .before .before .before .before .before .args in
+    let s = c .before .before .before .before .before .before .before .before in
+    let a = s .args in
     let above = sym (c .before .before .all-upto .ensures) ∙ not-true (c .before .before .all-upto .result) (c .before .if3 .taken) in
-    c .refused2 .ensures
+    ran-is (c .refused2 .ensures) (s .pre .6)
     ∙ ap (λ x. filled x)
     (channel-8 (a .exp .now) (a .start .0) (a .end .0) (a .c) (a .v) (a .s0) (a .d) (a .which) (a .hearing .now) (a .latab .now) (c .before .before .before .before .before .if1 .left) (c .before .before .before .before .if2 .left) above)
 
@@ -44,7 +49,7 @@ pointers-of-requires : tie.Need-pointers-of-requires
 pointers-of-requires c κs =
     let e = c .before .before .before in
     let p = e .before .before .before .before .before .before .before .pre in
-    (p .0, p .1, e .before .before .before .before .if1 .left, e .before .before .before .if2 .left, within e, p .2, p .3, p .4, p .5, refl)
+    (p .0, p .1, e .before .before .before .before .if1 .left, e .before .before .before .if2 .left, within e, p .2, p .3, p .4, p .5, p .6)
 
 returns-4 : tie.Need-returns-4
 returns-4 c =

@@ -9,7 +9,7 @@ use Rattle.blocks.proofs.channel_of.Tie as tie
 
 returns : tie.Need-returns
 returns c =
-    let p = c .before in
+    let p = c .before .before in
     let a = p .before .before .before .before .before .before .args in
     c .allocate .ensures
     ∙ (λ j. allocateOf (now (a .exp)) (a .start .0) (a .end .0) (p .before .before .before .codes-of .ensures j) (p .before .before .leak-of .ensures j) (p .before .delta-of .ensures j) (p .pointers-by .ensures j) (now (a .hearing)) (now (a .log-add)))

@@ -4,8 +4,9 @@ use mathlib.Core.Path.{refl, sym, _∙_}
 use borrow.Author.Needs.{needs}
 use borrow.Author.Tests.{not-true, not-false}
 use denote.Ref.{now}
+use Rattle.alloc.proofs.Cases.{ran-is}
 use Rattle.blocks.specs.Block.{slotBy}
-use Rattle.blocks.proofs.Cases.{ran-is, slot-absent, slot-12, slot-10, slot-alone}
+use Rattle.blocks.proofs.Cases.{slot-absent, slot-12, slot-10, slot-alone}
 use Rattle.blocks.proofs.fill_slot.Statement.{statement}
 use Rattle.blocks.proofs.fill_slot.Tie as tie
 
@@ -42,7 +43,7 @@ returns-4 c =
     let l = h .before .before in
     let f = l .before .before in
     let a = f .before .before .before .args in
-    c .before .channel-of .ensures
+    c .channel-of .ensures
     ∙ slot-alone (a .state) (a .fscod) (a .hearing .now) (a .log-add .now) (a .i) (slotBy (a .present) (a .high) (now (a .exp)) (a .t7)) (not-false _ (f .if1 .left))
     (sym (l .before .is-uncovered .ensures _ _ _) ∙ h .before .if2 .left)
     (sym (l .lacks-leak .ensures) ∙ h .if3 .left)

@@ -7,8 +7,9 @@ use native.Mathlib.Omega.{arith}
 use lib.ListN.{length, drop, take, length-set}
 use borrow.Author.Needs.{needs}
 use denote.Ref.{now}
+use Rattle.alloc.proofs.Cases.{ran-is}
 use Rattle.blocks.specs.Block.{slotAt, asked, filledSlots, slotsFrom}
-use Rattle.blocks.proofs.Cases.{ran-is, slot-taken, slot-refused}
+use Rattle.blocks.proofs.Cases.{slot-taken, slot-refused}
 use Rattle.blocks.proofs.Turns.{Blank, blank-start, blank-on, after, after-none, slots-stop, slots-on, slots-end}
 use Rattle.blocks.proofs.fill_slots.Statement.{statement}
 use Rattle.blocks.proofs.fill_slots.Tie as tie
@@ -38,7 +39,7 @@ returns c =
     let m = c .before .before .before .before .before in
     let l = m .before .before .before .before .before .before .before in
     let a = l .before .before .before .args in
-    let e = slot-refused (record { answer = m .fill-slot .result; bap = _ }) (m .fill-slot .ensures) (c .before .before .before .one .given .1) in
+    let e = slot-refused (m .fill-slot .result) _ (m .fill-slot .ensures) (c .before .before .before .one .given .1) in
     ran-is refl (c .zero-rows .ensures)
     ∙ ap (λ o. filledSlots o) (slots-stop (a .state) (a .fscod) (now (a .present)) (now (a .high)) (now (a .exponents)) (now (a .ranges)) (a .hearing .now) (a .log-add .now) (l .loop .i) (l .loop .bap) (omega arith) e ∙ l .loop .inv .3)
 
@@ -49,7 +50,7 @@ loop-again c =
     let l = m .before .before .before .before .before .before .before in
     let a = l .before .before .before .args in
     let n = l .loop .inv .1 in
-    let e = slot-taken (record { answer = m .fill-slot .result; bap = _ }) (m .fill-slot .ensures) (c .enum-told .given .1) in (
+    let e = slot-taken (m .fill-slot .result) _ (m .fill-slot .ensures) (c .enum-told .given .1) in (
       omega arith,
       length-set (l .loop .bap) (l .loop .i) _ ∙ n,
       blank-on (l .loop .bap) (l .loop .i) _ (l .loop .inv .2),

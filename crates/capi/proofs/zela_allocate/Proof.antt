@@ -10,8 +10,8 @@ use Rattle.capi.proofs.zela_allocate.Tie as tie
 
 returns : tie.Need-returns
 returns c =
-    let r = c .before .before .before in
-    let w = r .before in
+    let r = c .before .before in
+    let w = r .before .before in
     let d = w .before in
     let l = d .before in
     let k = l .before in
