@@ -83,16 +83,19 @@ fn range(slot: usize) -> (usize, usize) {
 }
 
 /// Every slot by its exponents, which are there for all bins.
-fn slots(sets: &[ExpSet; SLOTS]) -> Slots<'_> {
-    std::array::from_fn(|slot| {
-        let (start, end) = range(slot);
-        Some(Slot {
-            exponents: &sets[slot],
+fn slots(sets: &[ExpSet; SLOTS]) -> Slots {
+    let mut slots = Slots::NONE;
+    for (n, set) in sets.iter().enumerate() {
+        let (start, end) = range(n);
+        let slot = Slot {
+            covered: (set.start, set.end),
             start: Bin(start),
             end: Bin(end),
             pointers: Pointers::Bap,
-        })
-    })
+        };
+        let _ = slots.ask(n, &slot, set.exp);
+    }
+    slots
 }
 
 fn allocate_block(bytes: &[u8]) {
@@ -101,7 +104,7 @@ fn allocate_block(bytes: &[u8]) {
         start: Bin(0),
         end: Bin(END),
     });
-    let (state, slots, tables) = (state(), slots(&sets), Tables::new());
+    let (state, tables) = (state(), Tables::new());
     let rusts = rust::Block::new(&state, &sets, range);
     let mut pointers = [[0; BINS]; SLOTS];
     measure(
@@ -113,7 +116,7 @@ fn allocate_block(bytes: &[u8]) {
             let _ = black_box(blocks::allocate_block(
                 black_box(&state),
                 fscod,
-                &slots,
+                &slots(black_box(&sets)),
                 &tables.lent(),
                 &mut pointers,
             ));

@@ -135,13 +135,10 @@ fn is(table: &[u8; 64], runs: &[usize]) -> bool {
         .eq(table.iter().copied())
 }
 
-/// Exponents in the core's form; one that it has no byte for is one that it refuses.
-pub(crate) fn exponents(exp: &[i16]) -> [u8; BINS] {
-    let mut bytes = [0; BINS];
-    for (to, from) in bytes.iter_mut().zip(exp) {
-        *to = u8::try_from(*from).unwrap_or(u8::MAX);
-    }
-    bytes
+/// An exponent in the core's form; one that it has no byte for is one that it refuses.
+#[inline]
+pub(crate) fn exponent(exponent: i16) -> u8 {
+    u8::try_from(exponent).unwrap_or(u8::MAX)
 }
 
 /// The most pointers that are answered. The original has as many zeros as a range says that needs no bin, and
@@ -189,9 +186,10 @@ fn pointers(c: &Channel<'_>, p: &Params, table: &[u8; 64]) -> Result<[u8; BINS],
         Some((fast, slow)) => Some((leak(fast).ok_or(past)?, leak(slow).ok_or(past)?)),
         None => None,
     };
-    let mut exponents = exponents(c.exp);
-    if let Some(absent) = exponents.get_mut(c.exp.len()..) {
-        absent.fill(u8::MAX);
+    // One that is not there is one that the core refuses, too.
+    let mut exponents = [u8::MAX; BINS];
+    for (to, from) in exponents.iter_mut().zip(c.exp) {
+        *to = exponent(*from);
     }
     let delta: Vec<Segment> = c.delta.iter().map(|segment| segment.segment()).collect();
     let channel = core::Channel {

@@ -1,6 +1,6 @@
 //! Exponents, side information, block allocation and mantissa walks.
 
-use crate::alloc::{exponents, first, DeltaSeg, Params};
+use crate::alloc::{exponent, first, DeltaSeg, Params};
 use crate::error::{refused, unfit, unsupported, Result};
 use crate::lent;
 use crate::syntax::{Cursor, WORDS};
@@ -181,46 +181,38 @@ pub struct SlotAlloc<'a> {
     pub high_efficiency: bool,
 }
 
-/// A slot's exponents in the core's form. Where any are asked for, a set is not taken to cover a bin that it
-/// has no exponent for.
-fn set_of(asked: &SlotAlloc) -> sets::ExpSet {
+/// What is asked for a slot in the core's form. Where any exponents are asked for, a set is not taken to cover a
+/// bin that it has none for.
+fn slot_of(asked: &SlotAlloc) -> Slot {
     let exps = asked.exps;
     let covered = match asked.start < asked.end {
         true => exps.end.min(exps.exp.len()),
         false => exps.end,
     };
-    sets::ExpSet {
-        exp: exponents(&exps.exp),
-        start: Bin(exps.start),
-        end: Bin(covered),
+    Slot {
+        covered: (Bin(exps.start), Bin(covered)),
+        start: Bin(asked.start),
+        end: Bin(asked.end),
+        pointers: match asked.high_efficiency {
+            true => Pointers::Hebap,
+            false => Pointers::Bap,
+        },
     }
 }
 
-/// The slots in the core's form, with the exponents of each.
+/// Asks for the slots, with the exponents of each.
 ///
 /// # Errors
 /// With 6 where a slot is above 6, or asked for twice.
-fn given<'a>(
-    slots: &[SlotAlloc<'_>],
-    sets: &'a [sets::ExpSet],
-) -> std::result::Result<Slots<'a>, Refusal> {
-    let mut given = [None; SLOTS];
-    for (asked, exponents) in slots.iter().zip(sets) {
-        let slot = Slot {
-            exponents,
-            start: Bin(asked.start),
-            end: Bin(asked.end),
-            pointers: match asked.high_efficiency {
-                true => Pointers::Hebap,
-                false => Pointers::Bap,
-            },
-        };
-        match given.get_mut(asked.slot) {
-            Some(room @ None) => *room = Some(slot),
-            _ => return Err(unfit(Why::BadArgument, 0)),
-        }
+fn ask(asked: &[SlotAlloc<'_>], slots: &mut Slots) -> std::result::Result<(), Refusal> {
+    let taken = asked.iter().all(|asked| {
+        let exponents = asked.exps.exp.iter().copied().map(exponent);
+        slots.ask(asked.slot, &slot_of(asked), exponents)
+    });
+    match taken {
+        true => Ok(()),
+        false => Err(unfit(Why::BadArgument, 0)),
     }
-    Ok(given)
 }
 
 /// As many of each slot's pointers as the original has. It looks at no start in a quiet block, and has the bins
@@ -268,9 +260,8 @@ fn allocated(
     fscod: u8,
     slots: &[SlotAlloc<'_>],
 ) -> std::result::Result<[Vec<u8>; SLOTS], Refusal> {
-    let sets: Vec<sets::ExpSet> = slots.iter().map(set_of).collect();
-    let given = given(slots, &sets)?;
-    let mut pointers = [[0; BINS]; SLOTS];
+    let (mut given, mut pointers) = (Slots::NONE, [[0; BINS]; SLOTS]);
+    ask(slots, &mut given)?;
     core::allocate_block(&st.state(), fscod, &given, &lent::tables(), &mut pointers)?;
     answered(slots, &pointers, st.is_quiet(slots))
 }
@@ -279,17 +270,22 @@ fn allocated(
 #[derive(Default)]
 pub struct Groups(walks::Groups);
 
-/// Codes in the core's form.
+/// Puts codes into the room that the core takes, which is all 0.
 ///
 /// # Errors
 /// With 6 where the range passes the codes.
-fn codes(codes: &[u8], end: usize, cur: &Cursor<'_>, what: &str) -> Result<[u8; BINS]> {
+fn put(
+    all: &mut [u8; BINS],
+    codes: &[u8],
+    end: usize,
+    bit: usize,
+) -> std::result::Result<(), Refusal> {
     if end > codes.len() {
-        return Err(refused(what, unfit(Why::BadArgument, cur.pos)));
+        return Err(unfit(Why::BadArgument, bit));
     }
-    let (mut all, len) = ([0; BINS], codes.len().min(BINS));
+    let len = codes.len().min(BINS);
     all[..len].copy_from_slice(&codes[..len]);
-    Ok(all)
+    Ok(())
 }
 
 /// Walks over the mantissas of the bins from `start` to `end`.
@@ -303,9 +299,10 @@ pub fn conventional(
     end: usize,
     g: &mut Groups,
 ) -> Result<()> {
-    let bap = codes(bap, end, cur, "mantissa")?;
+    let mut all = [0; BINS];
     cur.moving("mantissa", |frame, pos, limit| {
-        walks::conventional(frame, pos, limit, &bap, Bin(start), Bin(end), &mut g.0)
+        put(&mut all, bap, end, *pos)?;
+        walks::conventional(frame, pos, limit, &all, Bin(start), Bin(end), &mut g.0)
     })
 }
 
@@ -315,9 +312,10 @@ pub fn conventional(
 /// With 6 where the range ends before its start, or past the codes or bin 256; then 1, 14 and 13 where it
 /// stands.
 pub fn aht(cur: &mut Cursor<'_>, hebap: &[u8], start: usize, end: usize) -> Result<usize> {
-    let hebap = codes(hebap, end, cur, "aht")?;
+    let mut all = [0; BINS];
     cur.moving("aht", |frame, pos, limit| {
-        ahts::aht(frame, pos, limit, &hebap, Bin(start), Bin(end))
+        put(&mut all, hebap, end, *pos)?;
+        ahts::aht(frame, pos, limit, &all, Bin(start), Bin(end))
     })
 }
 

@@ -4,7 +4,6 @@
 
 use crate::alloc::{Bin, Delta, Pointers, Tables, BINS, SEGMENTS};
 use crate::core;
-use crate::exponents::ExpSet;
 use crate::refusal::Refusal;
 use crate::syntax::Place;
 
@@ -119,11 +118,11 @@ impl State {
     }
 }
 
-/// What a block asks for a slot.
+/// What a block asks for a slot, beside its exponents.
 #[derive(Clone, Copy, Debug, PartialEq, Eq, Hash)]
-pub struct Slot<'a> {
-    /// The exponents, with the range that they were read for.
-    pub exponents: &'a ExpSet,
+pub struct Slot {
+    /// The bins that there are exponents for, from the first to the one after the last.
+    pub covered: (Bin, Bin),
     /// The first bin of the range.
     pub start: Bin,
     /// The bin after the range.
@@ -132,42 +131,44 @@ pub struct Slot<'a> {
     pub pointers: Pointers,
 }
 
-/// The slots of a block, with none for one that is not there.
-pub type Slots<'a> = [Option<Slot<'a>>; SLOTS];
-
 /// The pointers of a block's slots, by slot and bin.
 pub type Block = [[u8; BINS]; SLOTS];
 
-/// The slots in the plain numbers of the C interface.
-pub(crate) struct Plain {
-    pub present: [bool; SLOTS],
-    pub high: [bool; SLOTS],
-    pub exponents: Block,
-    pub ranges: [[usize; 4]; SLOTS],
+/// The slots that a block asks for, laid out as the C interface takes them: what is handed over is written
+/// once. A block of [`Slots::NONE`] asks for none.
+#[derive(Clone, Debug, PartialEq, Eq)]
+pub struct Slots {
+    pub(crate) present: [bool; SLOTS],
+    pub(crate) high: [bool; SLOTS],
+    pub(crate) exponents: Block,
+    pub(crate) ranges: [[usize; 4]; SLOTS],
 }
 
-impl Plain {
+impl Slots {
     /// No slot at all.
-    pub const NONE: Plain = Plain {
+    pub const NONE: Slots = Slots {
         present: [false; SLOTS],
         high: [false; SLOTS],
         exponents: [[0; BINS]; SLOTS],
         ranges: [[0; 4]; SLOTS],
     };
 
+    /// Asks for a slot, with its exponents by bin: at most 256 are taken, and those that are not given are 0.
+    /// False where the slot is above 6 or was asked for before; nothing is changed then.
     #[inline]
-    pub fn of(slots: &Slots) -> Plain {
-        let mut plain = Plain::NONE;
-        for (n, slot) in slots.iter().enumerate() {
-            if let Some(slot) = slot {
-                let set = slot.exponents;
-                plain.present[n] = true;
-                plain.high[n] = slot.pointers == Pointers::Hebap;
-                plain.exponents[n] = set.exp;
-                plain.ranges[n] = [set.start.0, set.end.0, slot.start.0, slot.end.0];
-            }
+    #[must_use]
+    pub fn ask(&mut self, n: usize, slot: &Slot, exponents: impl IntoIterator<Item = u8>) -> bool {
+        let Some(present @ false) = self.present.get_mut(n) else {
+            return false;
+        };
+        *present = true;
+        self.high[n] = slot.pointers == Pointers::Hebap;
+        let (from, to) = slot.covered;
+        self.ranges[n] = [from.0, to.0, slot.start.0, slot.end.0];
+        for (to, from) in self.exponents[n].iter_mut().zip(exponents) {
+            *to = from;
         }
-        plain
+        true
     }
 }
 
@@ -294,22 +295,36 @@ mod tests {
 
     #[test]
     fn a_slot_that_is_not_there_is_handed_over_as_zeros() {
-        let set = ExpSet {
-            exp: [3; BINS],
-            start: Bin(1),
-            end: Bin(9),
-        };
-        let mut slots = [None; SLOTS];
-        slots[5] = Some(Slot {
-            exponents: &set,
+        let slot = Slot {
+            covered: (Bin(1), Bin(9)),
             start: Bin(2),
             end: Bin(8),
             pointers: Pointers::Hebap,
-        });
-        let plain = Plain::of(&slots);
-        assert_eq!(plain.present.map(u8::from), [0, 0, 0, 0, 0, 1, 0]);
-        assert_eq!(plain.high, plain.present);
-        assert_eq!((plain.exponents[4][0], plain.exponents[5][255]), (0, 3));
-        assert_eq!((plain.ranges[4], plain.ranges[5]), ([0; 4], [1, 9, 2, 8]));
+        };
+        let mut slots = Slots::NONE;
+        assert!(slots.ask(5, &slot, [3; 9]));
+        assert_eq!(slots.present.map(u8::from), [0, 0, 0, 0, 0, 1, 0]);
+        assert_eq!(slots.high, slots.present);
+        assert_eq!(slots.exponents[4], [0; BINS]);
+        assert_eq!(slots.exponents[5][..9], [3; 9]);
+        assert_eq!(slots.exponents[5][9..], [0; BINS - 9]);
+        assert_eq!((slots.ranges[4], slots.ranges[5]), ([0; 4], [1, 9, 2, 8]));
+    }
+
+    #[test]
+    fn a_slot_is_asked_for_once() {
+        let slot = |end| Slot {
+            covered: (Bin(0), Bin(9)),
+            start: Bin(0),
+            end: Bin(end),
+            pointers: Pointers::Bap,
+        };
+        let mut slots = Slots::NONE;
+        assert!(slots.ask(6, &slot(8), [3; BINS + 1]));
+        let before = slots.clone();
+        assert!(!slots.ask(6, &slot(7), [4; BINS]));
+        assert!(!slots.ask(7, &slot(7), [4; BINS]));
+        assert!(!slots.ask(usize::MAX, &slot(7), [4; BINS]));
+        assert_eq!(slots, before);
     }
 }

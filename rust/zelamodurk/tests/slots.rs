@@ -1,7 +1,7 @@
 //! The wrapper of exponents, walks and blocks: what is left after a refusal, and that no input panics.
 
 use zelamodurk::alloc::{Bin, Delta, Pointers, Segment, Tables, BINS};
-use zelamodurk::blocks::{self, Slot, State, SLOTS};
+use zelamodurk::blocks::{self, Slot, Slots, State, SLOTS};
 use zelamodurk::exponents::{self, Ask, ExpSet, CPL, D15};
 use zelamodurk::syntax::{self, names, Place};
 use zelamodurk::walks::{self, Groups};
@@ -156,19 +156,14 @@ fn sent() -> State {
 
 #[test]
 fn a_block_has_pointers_for_the_slots_that_are_there() {
-    let set = ExpSet {
-        exp: [0; BINS],
-        start: Bin(0),
-        end: Bin(8),
-    };
     let slot = Slot {
-        exponents: &set,
+        covered: (Bin(0), Bin(8)),
         start: Bin(0),
         end: Bin(8),
         pointers: Pointers::Bap,
     };
-    let mut slots = [None; SLOTS];
-    slots[2] = Some(slot);
+    let mut slots = Slots::NONE;
+    assert!(slots.ask(2, &slot, [0; BINS]));
     let mut pointers = [[7; BINS]; SLOTS];
     let done = blocks::allocate_block(&sent(), 0, &slots, &TABLES, &mut pointers);
     assert_eq!(done, Ok(()));
@@ -176,7 +171,7 @@ fn a_block_has_pointers_for_the_slots_that_are_there() {
     assert_eq!(pointers[2][8..], [0; BINS - 8]);
     assert_eq!(pointers[3], [0; BINS]);
     // A slot that is refused leaves none of the pointers.
-    slots[usize::from(CPL)] = Some(slot);
+    assert!(slots.ask(CPL.into(), &slot, [0; BINS]));
     let done = blocks::allocate_block(&sent(), 0, &slots, &TABLES, &mut pointers);
     assert_eq!(refused(done), (Why::NotSent, 0));
     assert_eq!(pointers, [[0; BINS]; SLOTS]);
@@ -190,8 +185,8 @@ fn a_block_with_no_slot_is_tested_as_any_other() {
         let mut pointers = [[7; BINS]; SLOTS];
         for fscod in [0, 3] {
             let none = blocks::allocate_none(&state, fscod, &TABLES);
-            let slots = [None; SLOTS];
-            let block = blocks::allocate_block(&state, fscod, &slots, &TABLES, &mut pointers);
+            let slots = &Slots::NONE;
+            let block = blocks::allocate_block(&state, fscod, slots, &TABLES, &mut pointers);
             assert_eq!(none, block);
         }
     }
@@ -259,16 +254,16 @@ fn take_sides(a: usize, b: usize, c: usize) {
     let mut state = sent();
     let _ = blocks::delta_code(&mut state, c, b as u32, a == 0);
     state.delta[c % SLOTS].count = a as u8;
-    let set = ExpSet {
-        end: Bin(c),
-        ..STALE
-    };
-    let slots = [Some(Slot {
-        exponents: &set,
+    let slot = Slot {
+        covered: (STALE.start, Bin(c)),
         start: Bin(b),
         end: Bin(a),
         pointers: Pointers::Hebap,
-    }); SLOTS];
+    };
+    let mut slots = Slots::NONE;
+    for n in 0..SLOTS {
+        assert!(slots.ask(n, &slot, STALE.exp));
+    }
     let mut pointers = [[0; BINS]; SLOTS];
     let _ = blocks::allocate_block(&state, c as u8, &slots, &TABLES, &mut pointers);
 }

@@ -3,7 +3,7 @@
 use super::Bytes;
 use std::borrow::Cow;
 use zelamodurk::alloc::{Bin, Pointers, Tables, BINS};
-use zelamodurk::blocks::{Slot, State, SLOTS};
+use zelamodurk::blocks::{Slot, Slots, State, SLOTS};
 use zelamodurk::exponents::ExpSet;
 use zelamodurk::syntax::Place;
 
@@ -41,15 +41,20 @@ pub struct Block<'a> {
 
 impl Block<'_> {
     /// The slots.
-    pub fn slots(&self) -> [Option<Slot<'_>>; SLOTS] {
-        self.slots.each_ref().map(|slot| {
-            slot.as_ref().map(|asking| Slot {
-                exponents: &asking.set,
-                start: Bin(asking.start),
-                end: Bin(asking.end),
-                pointers: asking.pointers,
-            })
-        })
+    pub fn slots(&self) -> Slots {
+        let mut slots = Slots::NONE;
+        for (n, asking) in self.slots.iter().enumerate() {
+            if let Some(asking) = asking {
+                let slot = Slot {
+                    covered: (asking.set.start, asking.set.end),
+                    start: Bin(asking.start),
+                    end: Bin(asking.end),
+                    pointers: asking.pointers,
+                };
+                let _ = slots.ask(n, &slot, asking.set.exp);
+            }
+        }
+        slots
     }
 
     /// The tables.

@@ -3,7 +3,7 @@
 //! its segments alone, so that what is a `bool` stays one.
 
 use crate::alloc::{Bin, Channel, Plain, Tables, BINS};
-use crate::blocks::{self, Block, Slots, State};
+use crate::blocks::{Block, Slots, State};
 use crate::exponents::{Ask, ExpSet};
 use crate::refusal::{outcome, Refusal};
 use crate::syntax::Place;
@@ -274,12 +274,12 @@ pub fn allocate_block(
     pointers: &mut Block,
 ) -> Result<(), Refusal> {
     // SAFETY: it is a block.
-    unsafe { allocated(state, fscod, &blocks::Plain::of(slots), tables, pointers) }
+    unsafe { allocated(state, fscod, slots, tables, pointers) }
 }
 
 #[inline]
 pub fn allocate_none(state: &State, fscod: u8, tables: &Tables) -> Result<(), Refusal> {
-    static NONE: blocks::Plain = blocks::Plain::NONE;
+    static NONE: Slots = Slots::NONE;
     // Not filled twice: the core writes zeros to it, and nobody looks at them.
     let mut pointers = MaybeUninit::uninit();
     // SAFETY: it has room for a block.
@@ -292,7 +292,7 @@ pub fn allocate_none(state: &State, fscod: u8, tables: &Tables) -> Result<(), Re
 unsafe fn allocated(
     state: &State,
     fscod: u8,
-    slots: &blocks::Plain,
+    slots: &Slots,
     tables: &Tables,
     pointers: *mut Block,
 ) -> Result<(), Refusal> {

@@ -4,7 +4,7 @@ use super::elements::{log_bytes, set_log, signed, Function, LOG};
 use super::{call, room, size, BYTES, ROOM};
 use super::{Changed, Number, Read};
 use crate::alloc::{Bin, Channel, Plain, Tables, BINS};
-use crate::blocks::{self, Block, Slots, State, SLOTS};
+use crate::blocks::{Block, Slots, State, SLOTS};
 use crate::exponents::{Ask, ExpSet};
 use crate::refusal::{outcome, Refusal};
 use crate::syntax::Place;
@@ -186,9 +186,8 @@ pub fn allocate_block(
     tables: &Tables,
     pointers: &mut Block,
 ) -> Result<(), Refusal> {
-    let plain = blocks::Plain::of(slots);
     // A `usize` has eight bytes on x86-64, low byte first.
-    let ranges: Vec<u8> = plain
+    let ranges: Vec<u8> = slots
         .ranges
         .as_flattened()
         .iter()
@@ -198,9 +197,9 @@ pub fn allocate_block(
     let lent = &mut [
         Read(ROOM, &state.bytes()),
         Number(fscod.into()),
-        Read(ROOM, &plain.present.map(u8::from)),
-        Read(ROOM, &plain.high.map(u8::from)),
-        Read(ROOM, plain.exponents.as_flattened()),
+        Read(ROOM, &slots.present.map(u8::from)),
+        Read(ROOM, &slots.high.map(u8::from)),
+        Read(ROOM, slots.exponents.as_flattened()),
         Read(ROOM, &ranges),
         Read(HALVES, &half_bytes(tables.hearing)),
         Read(BYTES, tables.log_add),
@@ -213,5 +212,5 @@ pub fn allocate_block(
 
 pub fn allocate_none(state: &State, fscod: u8, tables: &Tables) -> Result<(), Refusal> {
     let mut pointers = [[0; BINS]; SLOTS];
-    allocate_block(state, fscod, &[None; SLOTS], tables, &mut pointers)
+    allocate_block(state, fscod, &Slots::NONE, tables, &mut pointers)
 }
