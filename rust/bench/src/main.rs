@@ -98,20 +98,50 @@ fn time(pass: &mut impl FnMut()) -> f64 {
     start.elapsed().as_nanos() as f64
 }
 
-/// Times passes of both sides in turn, and prints the best of each for one of `calls` calls.
-fn measure(name: &str, limit: f64, calls: usize, mut ours: impl FnMut(), mut rusts: impl FnMut()) {
-    let (mut best, mut rusts_best) = (f64::INFINITY, f64::INFINITY);
-    for _ in 0..passes() {
-        best = best.min(time(&mut ours));
-        rusts_best = rusts_best.min(time(&mut rusts));
+/// The best times of both sides, in nanoseconds.
+#[derive(Clone, Copy)]
+struct Times {
+    ours: f64,
+    rusts: f64,
+}
+
+impl Times {
+    /// Times so many passes of both sides in turn.
+    fn best_of(passes: u32, mut ours: impl FnMut(), mut rusts: impl FnMut()) -> Times {
+        let mut best = Times {
+            ours: f64::INFINITY,
+            rusts: f64::INFINITY,
+        };
+        for _ in 0..passes {
+            best.ours = best.ours.min(time(&mut ours));
+            best.rusts = best.rusts.min(time(&mut rusts));
+        }
+        best
     }
-    let each = |ns: f64| ns / calls as f64;
-    let (best, rusts_best) = (each(best), each(rusts_best));
-    if rust::PRESENT {
-        let ratio = best / rusts_best;
-        let over = if ratio > limit { "  over" } else { "" };
-        println!("{name:<26}{best:>12.1}{rusts_best:>12.1}{ratio:>10.2}{limit:>8.1}{over}");
-    } else {
-        println!("{name:<26}{best:>12.1}{:>12}{:>10}{limit:>8.1}", "-", "-");
+
+    fn ratio(&self) -> f64 {
+        self.ours / self.rusts
     }
+
+    /// Prints a row.
+    fn tell(&self, name: &str, limit: f64) {
+        let Times { ours, rusts } = self;
+        if rust::PRESENT {
+            let ratio = self.ratio();
+            let over = if ratio > limit { "  over" } else { "" };
+            println!("{name:<26}{ours:>12.1}{rusts:>12.1}{ratio:>10.2}{limit:>8.1}{over}");
+        } else {
+            println!("{name:<26}{ours:>12.1}{:>12}{:>10}{limit:>8.1}", "-", "-");
+        }
+    }
+}
+
+/// Times both sides, and prints the row of one of `calls` calls.
+fn measure(name: &str, limit: f64, calls: usize, ours: impl FnMut(), rusts: impl FnMut()) {
+    let best = Times::best_of(passes(), ours, rusts);
+    let each = Times {
+        ours: best.ours / calls as f64,
+        rusts: best.rusts / calls as f64,
+    };
+    each.tell(name, limit);
 }

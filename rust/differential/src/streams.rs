@@ -8,7 +8,7 @@ const STREAMS: &str = concat!(env!("CARGO_MANIFEST_DIR"), "/../../../shared/stre
 const SAMPLES: &str = concat!(env!("CARGO_MANIFEST_DIR"), "/../../samples");
 
 /// The folder that the streams are in.
-pub fn folder() -> &'static Path {
+fn folder() -> &'static Path {
     let streams = Path::new(STREAMS);
     if streams.is_dir() {
         streams
@@ -51,16 +51,24 @@ pub fn cut(file: &Path) -> Result<Vec<Vec<u8>>, String> {
     Ok(frames)
 }
 
-/// Every frame of the streams of a codec, in the order of their names.
+/// The streams of a codec, in the order of their names.
 ///
 /// # Errors
-/// Where the folder or a stream can't be read, or a stream can't be cut.
-pub fn frames(codec: Codec) -> Result<Vec<Vec<u8>>, String> {
+/// Where the folder can't be read.
+pub fn files(codec: Codec) -> Result<Vec<PathBuf>, String> {
     let folder = folder();
     let files = fs::read_dir(folder).map_err(|e| format!("{}: {e}", folder.display()))?;
     let mut files: Vec<PathBuf> = files.flatten().map(|file| file.path()).collect();
     files.retain(|file| codec_of(file) == Some(codec));
     files.sort();
-    let cut: Result<Vec<_>, String> = files.iter().map(|file| cut(file)).collect();
+    Ok(files)
+}
+
+/// Every frame of the streams of a codec, in the order of their names.
+///
+/// # Errors
+/// Where the folder or a stream can't be read, or a stream can't be cut.
+pub fn frames(codec: Codec) -> Result<Vec<Vec<u8>>, String> {
+    let cut: Result<Vec<_>, String> = files(codec)?.iter().map(|file| cut(file)).collect();
     Ok(cut?.concat())
 }
