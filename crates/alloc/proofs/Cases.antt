@@ -7,7 +7,7 @@ use mathlib.Core.Bool.{true, false}
 use lib.Dec.{T, eqb, eqb→eq}
 use lib.ListN.{length}
 use borrow.Author.Tests.{le-leb, lt-leb, le-ltb, lt-ltb}
-use Rattle.refusal.specs.Refusals.{Outcome, taken, refused, grounds, Ran}
+use Rattle.refusal.specs.Refusals.{taken, refused, grounds}
 use Rattle.alloc.specs.declared.Codes.{Codes}
 use Rattle.alloc.specs.declared.Leak.{Leak}
 use Rattle.tables.specs.declared.Delta.{Delta}
@@ -22,10 +22,6 @@ use Rattle.tables.specs.Bands.{zeros}
 use Rattle.tables.specs.Fits.{upto, lentFits, tablesFit, deltaFits}
 use Rattle.alloc.specs.Answers.{channelOf, filled, allocateOf}
 use Rattle.refusal.proofs.TestLaws.{and-left, and-right}
-
--- what a call comes to, by its parts
-pub ran-is : {S : Type 0} {o p : Outcome Unit} {a b : S} → o ≡ p → a ≡ b → _≡_ {A = Ran S Unit} (record { outcome = o; state = a }) (record { outcome = p; state = b })
-ran-is e f = λ i. record { outcome = e i; state = f i }
 
 -- a channel whose parameters are decoded
 module _ (exp : List ℕ) (start end : ℕ) (c : Curve) (v : Levels) (s : Carried) (d : Delta) (which : Pointers) (hearing logAdd : List ℕ) where

@@ -8,7 +8,7 @@ use tables::Delta;
 use tables::Pointers;
 ghost use mathlib.Core.Path.{_≡_};
 ghost use Prim.Native.Nat.{_+_, _-_, _<_, _≤_, _*_, _/_, min, max};
-ghost use lib.ListN.{length, getD, replicate};
+ghost use lib.ListN.{length, getD};
 ghost use mathlib.Core.Bool.{true, not, _&&_};
 ghost use lib.Dec.{ltb, eqb};
 ghost use lib.IntN.{pos, natAbs, _-ℤ_};
@@ -17,6 +17,7 @@ ghost use Rattle.refusal.specs.Refusals.{numberOf, grounds, refused as refusedO
 ghost use Rattle.tables.specs.Numbers.{Upto, maxZ};
 ghost use Rattle.tables.specs.Bands.{zeros, bandOf};
 ghost use Rattle.tables.specs.Fits.{upto};
+ghost use Rattle.alloc.specs.Table.{noughts};
 ghost use Rattle.alloc.specs.Params.{curveOf, levelsOf, startOf, curvedOf, leveledOf, begunOf, leaksOf};
 ghost use Rattle.alloc.specs.Clauses.{logadd as logaddOf, rises as risesOf, lowStep, calcLowcomp, maskStep, bandSum, maskAt, masksOf, deltasOf, deltaOf, addSegment, bapsOf, pointed, bandPower, bandPowers, psdOf, powersOf, address as addressOf};
 ghost use Rattle.alloc.specs.Excite.{decayed, stepFirst, stepBegin, stepLow, stepHigh, stepFull, lowNext, step, exciteOf};
@@ -220,7 +221,7 @@ fn psd_of(e: u8) -> i32
 
 // Puts the powers of the bins from start to end, into zeros.
 fn powers(exp: &[u8; 256], start: usize, end: usize, psd: &mut [i32; 256])
-    requires { ⌜ (start ≤ end) × (end ≤ 256) × (now psd ≡ replicate 256 (pos 0)) ⌝ }
+    requires { ⌜ (start ≤ end) × (end ≤ 256) × (now psd ≡ noughts 256) ⌝ }
     ensures { λ _. ⌜ now (psd .exit) ≡ powersOf (now (exp .entry)) start end ⌝ }
 {
     let mut i = start;
@@ -285,7 +286,7 @@ fn band_power(psd: &[i32; 256], latab: &[u8], start: Bin, end: Bin, k: Band) -> 
 
 // Puts the powers of the bands that the channel has, into zeros.
 fn band_powers(psd: &[i32; 256], latab: &[u8], start: Bin, end: Bin, out: &mut [i32; 50])
-    requires { do ⌜ ((← ⟦latab.len()⟧) ≡ 256) × Powers (now psd) × (start .0 < end .0) × (end .0 ≤ 253) × (now out ≡ replicate 50 (pos 0)) ⌝ }
+    requires { do ⌜ ((← ⟦latab.len()⟧) ≡ 256) × Powers (now psd) × (start .0 < end .0) × (end .0 ≤ 253) × (now out ≡ noughts 50) ⌝ }
     ensures { λ _. ⌜ now (out .exit) ≡ bandPowers (now (latab .entry)) (λ j. getD (now (psd .entry)) j (pos 0)) (start .0) (end .0) (bandOf (end .0 - 1) + 1) ⌝ }
 {
     let e = end.0;
@@ -527,7 +528,7 @@ fn excite_step(c: Curve, first: Band, end: Band, bnd: &[i32; 50], k: Band, s: Ca
 
 // Puts the excitation of the bands from first to end, into zeros.
 fn excitation(c: Curve, first: Band, end: Band, bnd: &[i32; 50], s0: Carried, out: &mut [i32; 50])
-    requires { ⌜ (first .0 ≤ end .0) × (end .0 ≤ 50) × BandPowers (now bnd) × Tame c × Kept s0 × (now out ≡ replicate 50 (pos 0)) ⌝ }
+    requires { ⌜ (first .0 ≤ end .0) × (end .0 ≤ 50) × BandPowers (now bnd) × Tame c × Kept s0 × (now out ≡ noughts 50) ⌝ }
     ensures { λ _. ⌜ now (out .exit) ≡ exciteOf c (first .0) (end .0) (λ j. getD (now (bnd .entry)) j (pos 0)) s0 (end .0) ⌝ }
 {
     let mut s = s0;
@@ -564,7 +565,7 @@ fn masks(
     end: Band,
     out: &mut [i32; 50],
 )
-    requires { do ⌜ ((← ⟦hearing.len()⟧) ≡ 150) × (fscod ≤ 2) × (first .0 ≤ end .0) × (end .0 ≤ 50) × Excitations (now excite) × Sums (now power) × Knee knee × (now out ≡ replicate 50 (pos 0)) ⌝ }
+    requires { do ⌜ ((← ⟦hearing.len()⟧) ≡ 150) × (fscod ≤ 2) × (first .0 ≤ end .0) × (end .0 ≤ 50) × Excitations (now excite) × Sums (now power) × Knee knee × (now out ≡ noughts 50) ⌝ }
     ensures { λ _. ⌜ now (out .exit) ≡ masksOf (λ j. getD (now (excite .entry)) j (pos 0)) (λ j. getD (now (power .entry)) j (pos 0)) knee (now (hearing .entry)) fscod (first .0) (end .0) ⌝ }
 {
     let mut k = first.0;
@@ -714,7 +715,7 @@ fn channel_masks(
     fscod: usize,
     mask: &mut [i32; 50],
 )
-    requires { do ⌜ ((← ⟦latab.len()⟧) ≡ 256) × ((← ⟦hearing.len()⟧) ≡ 150) × (start .0 < end .0) × (end .0 ≤ 253) × (fscod ≤ 2) × Powers (now psd) × Tame c × Kept s0 × Knee knee × (now mask ≡ replicate 50 (pos 0)) ⌝ }
+    requires { do ⌜ ((← ⟦latab.len()⟧) ≡ 256) × ((← ⟦hearing.len()⟧) ≡ 150) × (start .0 < end .0) × (end .0 ≤ 253) × (fscod ≤ 2) × Powers (now psd) × Tame c × Kept s0 × Knee knee × (now mask ≡ noughts 50) ⌝ }
     ensures { λ _. ⌜ (now (mask .exit) ≡ masksFrom (now (psd .entry)) (now (latab .entry)) (now (hearing .entry)) (start .0) (end .0) c s0 knee fscod) × Masks (now (mask .exit)) ⌝ }
 {
     let e = end.0;

@@ -147,11 +147,7 @@ fn mantissa(b: u8, place: Place, g: Groups) -> Walked
     let groups = c.groups;
     if passes(place, n) {
         if n == 0 {
-            return Walked {
-                answer: Put::Done,
-                place,
-                groups,
-            };
+            return goes_on(place, place.pos, groups);
         }
         return past_limit(place, groups);
     }

@@ -99,7 +99,6 @@ fn time(pass: &mut impl FnMut()) -> f64 {
 }
 
 /// The best times of both sides, in nanoseconds.
-#[derive(Clone, Copy)]
 struct Times {
     ours: f64,
     rusts: f64,

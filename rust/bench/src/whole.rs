@@ -9,7 +9,8 @@ use zelamodurk::frame::Codec;
 const LIMIT: f64 = 1.3;
 
 /// A row for the frames of each stream, one after another, and one for the frame that compares worst where
-/// it is parsed by itself again and again. Without the Rust there is no parser, and no row.
+/// it is parsed by itself again and again. Without the Rust there is no parser, and no row; nor is there one for a
+/// stream that can't be cut, or has no frame.
 pub fn all() {
     if !whole::lend() {
         return;
@@ -17,6 +18,9 @@ pub fn all() {
     let mut all = Vec::new();
     for file in streams::files(Codec::Eac3).unwrap_or_default() {
         let frames = streams::cut(&file).unwrap_or_default();
+        if frames.is_empty() {
+            continue;
+        }
         let name = file.file_stem().unwrap_or_default().to_string_lossy();
         parse(&format!("parse, {name}"), &frames);
         all.extend(frames);

@@ -134,8 +134,8 @@ pub struct Slot {
 /// The pointers of a block's slots, by slot and bin.
 pub type Block = [[u8; BINS]; SLOTS];
 
-/// The slots that a block asks for, laid out as the C interface takes them: what is handed over is written
-/// once. A block of [`Slots::NONE`] asks for none.
+/// The slots that a block asks for, laid out as the C interface takes them, so that what is handed over is
+/// written once.
 #[derive(Clone, Debug, PartialEq, Eq)]
 pub struct Slots {
     pub(crate) present: [bool; SLOTS],

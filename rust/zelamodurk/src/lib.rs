@@ -2,8 +2,9 @@
 //! (ETSI TS 102 366 V1.4.1).
 //!
 //! The functions stand in modules by subject, most of them named as the core's crates; those of `probe` and
-//! `repair` stand in `frame`. They take slices, answer a value or `Result<_, Refusal>`, and panic on no input. What each one answers is said in
-//! `include/zelamodurk.h` and proved in the core; this crate only carries it over.
+//! `repair` stand in `frame`. They take slices, answer a value or `Result<_, Refusal>`, and panic on no input. What
+//! each one answers is said in `include/zelamodurk.h` and proved in the core; this crate only carries it over. Its own
+//! are the forms of what is handed over, such as [`blocks::Slots`], and how they are made.
 //!
 //! The feature `cursor`, which is on by default, has all that reads by a cursor or allocates. Without it
 //! there are [`bits`], [`crc`], the refusals, and of [`frame`] the header and the checksums. A clean build

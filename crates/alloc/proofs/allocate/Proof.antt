@@ -6,10 +6,11 @@ use borrow.Author.Needs.{needs}
 use borrow.Author.Tests.{not-true, not-false}
 use denote.Ref.{now}
 use Rattle.refusal.specs.Refusals.{taken}
+use Rattle.refusal.proofs.Laws.{ran-is}
 use Rattle.alloc.specs.Params.{curvedOf, leveledOf, begunOf, curveOf, levelsOf, startOf}
 use Rattle.tables.specs.Fits.{tablesFit}
 use Rattle.alloc.proofs.ParamLaws.{curve-tame, levels-level, start-kept, delta-sized}
-use Rattle.alloc.proofs.Cases.{ran-is, tables-lengths, unfit, curve-past, levels-past, leak-past, delta-past, decoded}
+use Rattle.alloc.proofs.Cases.{tables-lengths, unfit, curve-past, levels-past, leak-past, delta-past, decoded}
 use Rattle.alloc.proofs.allocate.Statement.{statement}
 use Rattle.alloc.proofs.allocate.Tie as tie
 

@@ -9,9 +9,10 @@ use borrow.Author.Tests.{not-true, not-false}
 use denote.Ref.{now}
 use Rattle.refusal.specs.Refusals.{taken}
 use Rattle.tables.specs.Fits.{upto}
+use Rattle.refusal.proofs.Laws.{ran-is}
 use Rattle.alloc.specs.Answers.{filled}
 use Rattle.alloc.specs.Channel.{pointersOf}
-use Rattle.alloc.proofs.Cases.{ran-is, channel-empty, channel-6, channel-8, channel-done}
+use Rattle.alloc.proofs.Cases.{channel-empty, channel-6, channel-8, channel-done}
 use Rattle.alloc.proofs.channel.Statement.{statement}
 use Rattle.alloc.proofs.channel.Tie as tie
 

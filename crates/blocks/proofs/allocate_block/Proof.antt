@@ -4,7 +4,7 @@ use mathlib.Core.Path.{refl, sym, ap, _∙_}
 use borrow.Author.Needs.{needs}
 use denote.Ref.{now}
 use Rattle.bits.specs.Answers.{doneOf}
-use Rattle.alloc.proofs.Cases.{ran-is}
+use Rattle.refusal.proofs.Laws.{ran-is}
 use Rattle.blocks.specs.Block.{asked}
 use Rattle.blocks.proofs.Cases.{block-stops, block-quiet, block-slots}
 use Rattle.blocks.proofs.allocate_block.Statement.{statement}

@@ -4,7 +4,7 @@ use mathlib.Core.Path.{refl, sym, _∙_}
 use borrow.Author.Needs.{needs}
 use borrow.Author.Tests.{not-true, not-false}
 use denote.Ref.{now}
-use Rattle.alloc.proofs.Cases.{ran-is}
+use Rattle.refusal.proofs.Laws.{ran-is}
 use Rattle.blocks.specs.Block.{slotBy}
 use Rattle.blocks.proofs.Cases.{slot-absent, slot-12, slot-10, slot-alone}
 use Rattle.blocks.proofs.fill_slot.Statement.{statement}

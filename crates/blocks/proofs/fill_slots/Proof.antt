@@ -7,7 +7,7 @@ use native.Mathlib.Omega.{arith}
 use lib.ListN.{length, drop, take, length-set}
 use borrow.Author.Needs.{needs}
 use denote.Ref.{now}
-use Rattle.alloc.proofs.Cases.{ran-is}
+use Rattle.refusal.proofs.Laws.{ran-is}
 use Rattle.blocks.specs.Block.{slotAt, asked, filledSlots, slotsFrom}
 use Rattle.blocks.proofs.Cases.{slot-taken, slot-refused}
 use Rattle.blocks.proofs.Turns.{Blank, blank-start, blank-on, after, after-none, slots-stop, slots-on, slots-end}

@@ -21,9 +21,10 @@ returns-2 c =
 
 returns-3 : tie.Need-returns-3
 returns-3 c =
-    let a = c .before .before .before .before .before .before .before .before .args in
-    let e = c .before .before .before .before .before .counted-in .ensures in
-    mantissa-free (a .b) (a .place) (a .g) _ _ (c .before .before .before .before .before .before .if2 .left) (e .0) (e .1) (c .if4 .taken)
+    let a = c .before .before .before .before .before .before .before .before .before .args in
+    let e = c .before .before .before .before .before .before .counted-in .ensures in
+    c .goes-on2 .ensures
+    ∙ mantissa-free (a .b) (a .place) (a .g) _ _ (c .before .before .before .before .before .before .before .if2 .left) (e .0) (e .1) (c .before .if4 .taken)
 
 returns-4 : tie.Need-returns-4
 returns-4 c =
@@ -42,7 +43,7 @@ returns-5 : tie.Need-returns-5
 returns-5 c =
     let a = c .before .before .before .before .before .before .before .before .before .args in
     let e = c .before .before .before .before .before .before .counted-in .ensures in
-    c .goes-on2 .ensures
+    c .goes-on3 .ensures
     ∙ mantissa-on (a .b) (a .place) (a .g) _ _ (c .before .before .before .before .before .before .before .if2 .left) (e .0) (e .1) (sym (c .before .before .before .passes .ensures) ∙ c .before .before .if3 .left)
 
 pub mantissa-spec : {M : Type 1} → statement M
@@ -55,6 +56,7 @@ mantissa-spec =
     returns-2
     (λ c κs. search needs)
     (λ c. search needs)
+    (λ c κs. search needs)
     (λ c κs. search needs)
     returns-3
     (λ c κs. search needs)
