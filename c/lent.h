@@ -7,8 +7,9 @@
 
 #include "zelamodurk.h"
 
-/* GUARD is at least what aligns any number; STALE is what stands in room before a call fills it. */
-enum { GUARD = 64, MARK = 0xA5, STALE = 0x5A, ROOM = 1 << 18, ROOMS = 24 };
+/* A guard has GUARD bytes at least, more than any array that is lent but a frame or a log, and each room begins where any number
+ * may; STALE is what stands in room before a call fills it. */
+enum { GUARD = 2048, MARK = 0xA5, STALE = 0x5A, ROOM = 1 << 19, ROOMS = 24 };
 
 /* The room, and how it stood before the call. */
 extern union room {

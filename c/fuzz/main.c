@@ -78,7 +78,7 @@ int main(int argc, char **argv) {
         printf("fuzz: an answer that the header lists was not met\n");
         return 1;
     }
-    printf("fuzz: %llu cases, each called twice, and no byte outside of what was lent has changed\n",
-           (unsigned long long)turn);
+    printf("fuzz: %llu cases, each called twice, and no byte outside of what was lent has changed, to %d around it\n",
+           (unsigned long long)turn, (int)GUARD);
     return 0;
 }

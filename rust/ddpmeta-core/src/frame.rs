@@ -141,7 +141,8 @@ pub struct CrcStatus {
 /// Which checksums of a frame are good.
 ///
 /// # Panics
-/// With 20 where the length is odd, above 4,096, or below 8 in AC-3 and 4 in E-AC-3.
+/// With 20 where the length is odd, above 4,096, or below 8 in AC-3 and 4 in E-AC-3: so is the 2 that [`probe`] answers
+/// for frmsiz 0.
 #[track_caller]
 pub fn crc_status(codec: Codec, frame: &[u8]) -> CrcStatus {
     let core::Status { crc1, crc2 } = taken("crc_status", core::crc_status(frame, codec));

@@ -48,6 +48,9 @@
 //! | `alloc::allocate` | 6: a table that is neither of TS's two, a range past bin 253, more than 65,536 pointers; 8: an exponent outside 0 to 24, or not there; 11: a number that no code has, or more than 8 segments; 21: tables not lent, or unfit |
 //! | `frame::crc_status`, `fix_crcs` | 20: a length that is odd, above 4,096, or below 8 in AC-3 and 4 in E-AC-3 |
 //!
+//! The last can come from a feed: `frame::probe` answers 2 bytes for an E-AC-3 header with frmsiz 0, as the
+//! original does, whose `crc_status` then answers for no byte at all. A program tests that length before it asks.
+//!
 //! # What is not from the proved functions
 //!
 //! Since the core has no function for them:
