@@ -1,10 +1,12 @@
 //! `zela bits`: some bits of a file, for support calls.
 
 use crate::args::{Format, Span};
+use crate::columns::{columns, row, titles, Column, Side};
 use crate::core;
 use crate::input::{spoken, Input};
 use crate::outcome::{name, print, Failure, Outcome};
-use crate::report::{report, Side, Told, Value};
+use crate::report::{alone, printable, Record, Value};
+use crate::words::grouped;
 use std::io::{self, Read};
 
 /// Bytes that hold any 32 bits.
@@ -14,18 +16,16 @@ pub fn run(span: &Span, format: Format) -> Result<Outcome, Failure> {
     let input = Input::open(&span.file)?;
     let (bytes, at) = window(input, span.at).map_err(|e| Failure::io(spoken(&span.file), &e))?;
     let value = core::get(&bytes, at, span.width).map_err(|refusal| {
-        let (file, number, why) = (spoken(&span.file), refusal.why.number(), refusal.why);
-        let (at, width) = (span.at, span.width);
-        let words = format!("{file}: bit {at}, width {width}: refusal {number}, {why}");
-        Failure::new(Outcome::Damage, words)
+        let (number, why) = (refusal.why.number(), refusal.why);
+        let (at, width) = (grouped(span.at), grouped(span.width as u64));
+        let words = format!("bit {at}, width {width}: refusal {number}, {why}");
+        Failure::of(Outcome::Damage, spoken(&span.file), words)
     })?;
-    let found = Found {
-        file: name(&span.file),
-        at: span.at,
-        width: span.width,
-        value,
-    };
-    print(&report(&[found], None, format))?;
+    let found = Found { span, value };
+    print(&match format {
+        Format::Text => found.table(),
+        _ => alone(&found.record(), format),
+    })?;
     Ok(Outcome::Good)
 }
 
@@ -38,61 +38,49 @@ fn window(mut input: Input, at: u64) -> io::Result<(Vec<u8>, usize)> {
     Ok((bytes, usize::try_from(at).unwrap_or(usize::MAX)))
 }
 
-struct Found {
-    file: String,
-    at: u64,
-    width: usize,
+struct Found<'a> {
+    span: &'a Span,
     value: u32,
 }
 
-impl Found {
+impl Found<'_> {
     /// As many signs as the width has bits.
     fn binary(&self) -> String {
-        match self.width {
+        match self.span.width {
             0 => String::new(),
             width => format!("{:0width$b}", self.value),
         }
     }
 
     fn hex(&self) -> String {
-        let digits = self.width.div_ceil(4);
+        let digits = self.span.width.div_ceil(4);
         format!("0x{:0digits$X}", self.value)
     }
-}
 
-impl Told for Found {
-    const COLUMNS: &'static [(&'static str, Side)] = &[
-        ("file", Side::Left),
-        ("bit", Side::Right),
-        ("width", Side::Right),
-        ("value", Side::Right),
-        ("hex", Side::Left),
-        ("binary", Side::Left),
-    ];
-
-    fn keys() -> Vec<&'static str> {
-        vec!["file", "bit", "width", "value", "hex", "binary"]
+    fn record(&self) -> Record {
+        let mut record = Record::default();
+        record.add("file", Value::Text(name(&self.span.file)));
+        record.add("bit", Value::Number(self.span.at));
+        record.add("width", Value::Number(self.span.width as u64));
+        record.add("value", Value::Number(self.value.into()));
+        record.add("hex", Value::Text(self.hex()));
+        record.add("binary", Value::Text(self.binary()));
+        record
     }
 
-    fn values(&self) -> Vec<Value> {
-        vec![
-            Value::Text(self.file.clone()),
-            Value::Number(self.at),
-            Value::Number(self.width as u64),
-            Value::Number(self.value.into()),
-            Value::Text(self.hex()),
-            Value::Text(self.binary()),
-        ]
-    }
-
-    fn cells(&self) -> Vec<String> {
-        vec![
-            self.file.clone(),
-            self.at.to_string(),
-            self.width.to_string(),
-            self.value.to_string(),
-            self.hex(),
-            self.binary(),
-        ]
+    fn table(&self) -> String {
+        let cells = [
+            ("bit", grouped(self.span.at), Side::Right),
+            ("width", self.span.width.to_string(), Side::Right),
+            ("value", grouped(self.value.into()), Side::Right),
+            ("hex", self.hex(), Side::Left),
+            ("binary", self.binary(), Side::Left),
+            ("file", printable(&name(&self.span.file)), Side::Left),
+        ];
+        let column = |(title, cell, side): &(&'static str, String, Side)| -> Column {
+            (title, columns(cell).max(title.len()), *side)
+        };
+        let columns: Vec<Column> = cells.iter().map(column).collect();
+        titles(&columns) + &row(&columns, &cells.map(|(_, cell, _)| cell))
     }
 }

@@ -1,250 +1,308 @@
-//! `zela check`: what files hold, and the first bad place of each.
+//! `zela check`: what files hold, and every bad place in them.
+//!
+//! Several files are read at once, and told in the order in which they were named. What is found goes to the
+//! writer by a channel of few places for each file, so that a file whose turn has not come waits, and memory
+//! stays flat.
 
-use crate::args::Shown;
-use crate::clock::Time;
-use crate::core::{self, Codec};
-use crate::frames::{Frame, Frames, Item};
-use crate::input::{spoken, Input};
+use crate::args::{Check, Format};
+use crate::input::{size_of, spoken, Input};
+use crate::listing::{Entry, Listing};
 use crate::outcome::{name, print, Failure, Outcome};
-use crate::report::{report, Side, Told, Value};
-use crate::trouble::{bad_values, Bad, Place, Trouble, BAD_KEYS};
-use std::ffi::{OsStr, OsString};
-use std::io::{self, Read};
+use crate::progress::Progress;
+use crate::report::{Record, Records, Value};
+use crate::summary::{State, Summary};
+use crate::table::Table;
+use crate::terminal::Terminal;
+use crate::trouble::Bad;
+use crate::words::{counted, grouped};
+use std::collections::VecDeque;
+use std::ffi::OsStr;
+use std::io::{self, IsTerminal};
+use std::sync::atomic::{AtomicBool, Ordering};
+use std::sync::mpsc::{channel, sync_channel, Receiver, Sender, SyncSender};
+use std::sync::{Mutex, PoisonError};
+use std::thread;
 
-/// Checks each file that can be read, and names the others on standard error.
-pub fn run(files: &[OsString], shown: Shown) -> Result<Outcome, Failure> {
-    let mut outcome = Outcome::Good;
-    let mut checked = Vec::new();
-    for file in files {
-        match check(file, shown) {
-            Ok(summary) => {
-                outcome = outcome.max(summary.outcome());
-                checked.push(summary);
-            }
-            Err(failure) => outcome = outcome.max(failure.tell()),
-        }
-    }
-    if !shown.quiet {
-        print(&report(
-            &checked,
-            total(&checked, files.len()),
-            shown.format,
-        ))?;
-    }
-    Ok(outcome)
+/// How many places of a file are told, unless all are asked for.
+pub const TOLD: usize = 10;
+/// How many places wait for the writer.
+const WAITING: usize = 16;
+/// How many files are begun before the one that is told is done.
+const AHEAD: usize = 256;
+
+/// What a reader sends to the writer.
+enum Event {
+    Place(Bad),
+    Done(Box<Summary>),
 }
 
-/// Of many files, how many are good, damaged, and not read, if there are such.
-fn total(checked: &[Summary], files: usize) -> Option<String> {
-    let good = checked.iter().filter(|file| file.is_good()).count();
-    let damaged = checked.len() - good;
-    let unread = match files - checked.len() {
-        0 => String::new(),
-        unread => format!(", {unread} not read"),
+/// A file to be read, and where its events go.
+type Job<'a> = (&'a Entry, SyncSender<Event>);
+
+/// Checks each file that can be read, and tells why others can't be.
+pub fn run(asked: &Check) -> Result<Outcome, Failure> {
+    let listing = Listing::of(&asked.files, asked.is_recursive);
+    let progress = progress_of(&listing, asked.shown.quiet);
+    let stop = AtomicBool::new(false);
+    let (jobs, taken) = channel::<Job<'_>>();
+    let taken = Mutex::new(taken);
+    let workers = asked.jobs.min(listing.entries.len());
+    thread::scope(|scope| {
+        for _ in 0..workers {
+            scope.spawn(|| work(&taken, asked, &progress, &stop));
+        }
+        let told = Writer::new(asked, &progress).write_all(&listing, jobs);
+        // Readers of files that nobody will hear of end soon.
+        stop.store(true, Ordering::Relaxed);
+        told
+    })
+}
+
+/// One bar for all files; their sizes are known where each is a plain file.
+fn progress_of(listing: &Listing, is_quiet: bool) -> Progress {
+    let files = listing
+        .entries
+        .iter()
+        .filter(|entry| entry.failure.is_none());
+    let size = files.map(|entry| size_of(&entry.file)).sum::<Option<u64>>();
+    let name = match listing.entries.as_slice() {
+        [entry] => spoken(&entry.file),
+        entries => counted(entries.len() as u64, "file", "files"),
     };
-    (files > 1).then(|| format!("{files} files: {good} good, {damaged} damaged{unread}"))
+    Progress::new(name, size.filter(|size| *size > 0), is_quiet)
 }
 
-fn check(file: &OsStr, shown: Shown) -> Result<Summary, Failure> {
-    let input = Input::open(file)?.with_progress(file, shown);
-    summary(name(file), input).map_err(|e| Failure::io(spoken(file), &e))
+/// Reads files as long as there are any.
+fn work(taken: &Mutex<Receiver<Job<'_>>>, asked: &Check, progress: &Progress, stop: &AtomicBool) {
+    loop {
+        let next = taken.lock().unwrap_or_else(PoisonError::into_inner).recv();
+        let Ok((entry, events)) = next else {
+            return;
+        };
+        let mut summary = Summary::of(entry, asked);
+        if summary.failure.is_none() {
+            let read = read(&mut summary, asked, progress, stop, &events);
+            summary.failure = read.err();
+        }
+        // A writer that is gone needs no summary.
+        let _ = events.send(Event::Done(Box::new(summary)));
+    }
 }
 
-fn summary(file: String, input: impl Read) -> io::Result<Summary> {
-    let mut frames = Frames::new(input);
-    let mut summary = Summary::new(file);
-    while let Some((place, item)) = frames.next()? {
-        match item {
-            Item::Frame(frame) => summary.add(place, &frame),
-            Item::Gap(gap) => {
-                summary.skipped += gap.bytes;
-                summary.bad_at(place, gap.trouble);
-            }
+fn read(
+    summary: &mut Summary,
+    asked: &Check,
+    progress: &Progress,
+    stop: &AtomicBool,
+    events: &SyncSender<Event>,
+) -> Result<(), Failure> {
+    let file = summary.file.clone();
+    let input = Input::open(&file)?;
+    let (size, mut left) = (input.size(), asked.told_at_once(input.has_size()));
+    let mut found = |bad: &Bad| {
+        if left > 0 {
+            left -= 1;
+            let _ = events.send(Event::Place(bad.clone()));
+        }
+    };
+    let read = summary.read(input.watched(progress, stop), &mut found);
+    summary.bytes = summary.bytes.or(size);
+    read.map_err(|e| Failure::io(spoken(&file), &e))
+}
+
+impl Summary {
+    fn of(entry: &Entry, asked: &Check) -> Summary {
+        let holds_all = asked.all && asked.shown.format == Format::Json;
+        Summary {
+            file: entry.file.clone(),
+            changes_are_allowed: asked.allows_changes,
+            keep: if holds_all { usize::MAX } else { TOLD },
+            all_are_told: asked.all,
+            is_wrong: entry.is_empty_folder(),
+            failure: entry.failure.clone(),
+            ..Summary::default()
         }
     }
-    summary.end(frames.place());
-    Ok(summary)
+
+    fn record(&self) -> Record {
+        let mut record = Record::default();
+        record.add("file", Value::Text(name(&self.file)));
+        let good = match self.state() {
+            State::Unread => Value::None,
+            state => Value::Flag(state == State::Good),
+        };
+        record.add("good", good);
+        record.add("codec", self.codec().into());
+        record.add("bytes", self.bytes.into());
+        record.add("frames", Value::Number(self.frames()));
+        record.add("seconds", Value::Decimal(self.length.seconds()));
+        record.add("bit_rate", self.bit_rate().into());
+        record.add("crc1_good", Value::Number(self.crc1.good));
+        record.add("crc1_bad", Value::Number(self.crc1.bad));
+        record.add("crc2_good", Value::Number(self.crc2.good));
+        record.add("crc2_bad", Value::Number(self.crc2.bad));
+        record.add("skipped_bytes", Value::Number(self.skipped));
+        Bad::add_first(&mut record, self.first_bad.as_ref());
+        let error = self.failure.as_ref().map(|failure| failure.words.as_str());
+        record.add("error", error.into());
+        record.add("kind", self.kind.map(|kind| kind.name).into());
+        record.add("layout", self.formats.layout().as_deref().into());
+        record.add("sample_rate", self.formats.rate().into());
+        let varies = self.formats.bit_rate_varies();
+        record.add("bit_rate_varies", Value::Flag(varies));
+        record.add("bad_places", Value::Number(self.bad()));
+        record.add("format_changes", Value::Number(self.changes));
+        let places = self.places.iter().map(Bad::record).collect();
+        record.add("places", Value::Many(places));
+        record
+    }
 }
 
-/// How many checksums of a kind are good, and how many bad.
+/// How many files came to what.
 #[derive(Default)]
-struct Sums {
+struct Totals {
     good: u64,
     bad: u64,
+    wrong: u64,
+    unread: u64,
 }
 
-impl Sums {
-    fn add(&mut self, is_good: bool) {
-        let which = if is_good {
-            &mut self.good
-        } else {
-            &mut self.bad
+impl Totals {
+    fn add(&mut self, state: State) {
+        let which = match state {
+            State::Good => &mut self.good,
+            State::Bad => &mut self.bad,
+            State::Wrong => &mut self.wrong,
+            State::Unread => &mut self.unread,
         };
         *which += 1;
     }
 
-    fn cell(&self) -> String {
-        match (self.good, self.bad) {
-            (0, 0) => "-".to_string(),
-            (_, 0) => "good".to_string(),
-            (0, _) => "bad".to_string(),
-            (_, bad) => format!("{bad} bad"),
+    /// The line below a table of many files.
+    fn line(&self, passed_over: u64) -> String {
+        let files = self.good + self.bad + self.wrong + self.unread;
+        if files < 2 && passed_over == 0 {
+            return String::new();
         }
+        let told = counted(files, "file", "files");
+        let (good, bad) = (grouped(self.good), grouped(self.bad));
+        let mut line = format!("\n{told}: {good} good, {bad} bad");
+        for (count, words) in [(self.wrong, "without AC-3"), (self.unread, "not read")] {
+            if count > 0 {
+                line += &format!(", {} {words}", grouped(count));
+            }
+        }
+        if passed_over > 0 {
+            let other = counted(passed_over, "other file", "other files");
+            line += &format!("; {other} passed over");
+        }
+        line + "\n"
     }
 }
 
-/// What a file holds.
-struct Summary {
-    file: String,
-    bytes: u64,
-    ac3: u64,
-    eac3: u64,
-    frame_bytes: u64,
-    length: Time,
-    crc1: Sums,
-    crc2: Sums,
-    skipped: u64,
-    first_bad: Option<Bad>,
+/// Tells of files in their order.
+struct Writer<'a> {
+    asked: &'a Check,
+    progress: &'a Progress,
+    table: Table,
+    records: Records,
+    totals: Totals,
+    outcome: Outcome,
+    is_terminal: bool,
 }
 
-impl Summary {
-    fn new(file: String) -> Summary {
-        Summary {
-            file,
-            bytes: 0,
-            ac3: 0,
-            eac3: 0,
-            frame_bytes: 0,
-            length: Time::default(),
-            crc1: Sums::default(),
-            crc2: Sums::default(),
-            skipped: 0,
-            first_bad: None,
+impl Writer<'_> {
+    fn new<'a>(asked: &'a Check, progress: &'a Progress) -> Writer<'a> {
+        Writer {
+            asked,
+            progress,
+            table: Table::new(Terminal::of_output()),
+            records: Records::new(asked.shown.format),
+            totals: Totals::default(),
+            outcome: Outcome::Good,
+            is_terminal: io::stdout().is_terminal(),
         }
     }
 
-    fn add(&mut self, place: Place, frame: &Frame<'_>) {
-        match frame.codec {
-            Codec::Ac3 => self.ac3 += 1,
-            Codec::Eac3 => self.eac3 += 1,
+    fn write_all<'b>(
+        mut self,
+        listing: &'b Listing,
+        jobs: Sender<Job<'b>>,
+    ) -> Result<Outcome, Failure> {
+        let mut entries = listing.entries.iter();
+        let mut begun = VecDeque::new();
+        loop {
+            for entry in entries.by_ref().take(AHEAD - begun.len()) {
+                let (sender, events) = sync_channel(WAITING);
+                // The readers are there until this ends.
+                let _ = jobs.send((entry, sender));
+                begun.push_back((entry, events));
+            }
+            let Some((entry, events)) = begun.pop_front() else {
+                break;
+            };
+            self.write_file(&entry.file, &events)?;
         }
-        self.frame_bytes += frame.bytes.len() as u64;
-        if let Some(is_good) = frame.status.crc1 {
-            self.crc1.add(is_good);
+        let end = match self.asked.shown.format {
+            Format::Text => self.totals.line(listing.passed_over),
+            _ => self.records.end().to_string(),
+        };
+        self.put(&end)?;
+        Ok(self.outcome)
+    }
+
+    fn write_file(&mut self, file: &OsStr, events: &Receiver<Event>) -> Result<(), Failure> {
+        let mut told_at_once = 0;
+        for event in events {
+            let text = match event {
+                Event::Place(bad) => {
+                    told_at_once += 1;
+                    self.place(file, &bad, told_at_once == 1)
+                }
+                Event::Done(summary) => self.file(&summary, told_at_once > 0),
+            };
+            self.put(&text)?;
         }
-        self.crc2.add(frame.status.crc2);
-        if !frame.status.is_good() {
-            self.bad_at(place, Trouble::Checksum(frame.status));
-        }
+        Ok(())
     }
 
-    fn bad_at(&mut self, place: Place, trouble: Trouble) {
-        self.first_bad.get_or_insert(Bad { place, trouble });
-    }
-
-    /// The end of the file: one with no bytes has no frame either, and the core says why.
-    fn end(&mut self, place: Place) {
-        self.bytes = place.offset;
-        self.length = place.time;
-        if let (0, Err(refusal)) = (self.frames(), core::probe(&[])) {
-            self.bad_at(Place::default(), Trouble::Refused(refusal));
-        }
-    }
-
-    fn frames(&self) -> u64 {
-        self.ac3 + self.eac3
-    }
-
-    fn codec(&self) -> Option<&'static str> {
-        match (self.ac3, self.eac3) {
-            (0, 0) => None,
-            (_, 0) => Some("AC-3"),
-            (0, _) => Some("E-AC-3"),
-            _ => Some("AC-3+E-AC-3"),
-        }
-    }
-
-    fn bit_rate(&self) -> Option<u64> {
-        self.length.bit_rate(self.frame_bytes)
-    }
-
-    fn is_good(&self) -> bool {
-        self.first_bad.is_none()
-    }
-
-    fn outcome(&self) -> Outcome {
-        match self.is_good() {
-            true => Outcome::Good,
-            false => Outcome::Damage,
+    fn place(&mut self, file: &OsStr, bad: &Bad, is_first: bool) -> String {
+        match self.asked.shown.format {
+            Format::Text => self.table.place(&spoken(file), bad, is_first),
+            _ => {
+                let mut record = Record::default();
+                record.add("file", Value::Text(name(file)));
+                record.add("place", Value::One(bad.record()));
+                self.records.next(&record)
+            }
         }
     }
-}
 
-impl Told for Summary {
-    const COLUMNS: &'static [(&'static str, Side)] = &[
-        ("file", Side::Left),
-        ("codec", Side::Left),
-        ("bytes", Side::Right),
-        ("frames", Side::Right),
-        ("length", Side::Right),
-        ("bit rate", Side::Right),
-        ("crc1", Side::Left),
-        ("crc2", Side::Left),
-        ("skipped", Side::Right),
-    ];
-
-    fn keys() -> Vec<&'static str> {
-        let own = [
-            "file",
-            "good",
-            "codec",
-            "bytes",
-            "frames",
-            "seconds",
-            "bit_rate",
-            "crc1_good",
-            "crc1_bad",
-            "crc2_good",
-            "crc2_bad",
-            "skipped_bytes",
-        ];
-        [&own[..], &BAD_KEYS].concat()
+    fn file(&mut self, summary: &Summary, places_are_told: bool) -> String {
+        if !summary.is_folder() {
+            self.totals.add(summary.state());
+        }
+        self.outcome = self.outcome.max(summary.outcome());
+        self.tell_failure(summary);
+        match self.asked.shown.format {
+            Format::Text => self.table.file(summary, places_are_told),
+            _ => self.records.next(&summary.record()),
+        }
     }
 
-    fn values(&self) -> Vec<Value> {
-        let mut values = vec![
-            Value::Text(self.file.clone()),
-            Value::Flag(self.is_good()),
-            self.codec()
-                .map_or(Value::None, |codec| Value::Text(codec.to_string())),
-            Value::Number(self.bytes),
-            Value::Number(self.frames()),
-            Value::Decimal(self.length.seconds()),
-            self.bit_rate().into(),
-        ];
-        let sums = [self.crc1.good, self.crc1.bad, self.crc2.good, self.crc2.bad];
-        values.extend(sums.map(Value::Number));
-        values.push(Value::Number(self.skipped));
-        values.extend(bad_values(self.first_bad));
-        values
+    /// A failure is told on standard error too, unless a row on the same terminal tells it.
+    fn tell_failure(&self, summary: &Summary) {
+        let is_seen =
+            self.is_terminal && !self.asked.shown.quiet && self.asked.shown.format == Format::Text;
+        if let (Some(failure), false) = (&summary.failure, is_seen) {
+            self.progress.around(|| failure.tell());
+        }
     }
 
-    fn cells(&self) -> Vec<String> {
-        let rate = |rate: u64| format!("{} kbit/s", (rate + 500) / 1000);
-        vec![
-            self.file.clone(),
-            self.codec().unwrap_or("-").to_string(),
-            self.bytes.to_string(),
-            self.frames().to_string(),
-            self.length.to_string(),
-            self.bit_rate().map_or("-".to_string(), rate),
-            self.crc1.cell(),
-            self.crc2.cell(),
-            self.skipped.to_string(),
-        ]
-    }
-
-    fn note(&self) -> Option<String> {
-        self.first_bad.map(|bad| format!("first bad place: {bad}"))
+    fn put(&self, text: &str) -> Result<(), Failure> {
+        match self.asked.shown.quiet {
+            true => Ok(()),
+            false => self.progress.around(|| print(text)),
+        }
     }
 }

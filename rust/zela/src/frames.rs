@@ -10,8 +10,8 @@
 //! ends and as what stands next, and tried at most once from before it. So it costs at most 5 probes and 3
 //! runs of checksums.
 
-use crate::clock::Time;
 use crate::core::{self, Codec, Header, Refusal, Status};
+use crate::sound::Sound;
 use crate::trouble::{Place, Trouble};
 use crate::window::Window;
 use std::io::{self, Read};
@@ -24,15 +24,28 @@ const SYNC: [u8; 2] = [0x0B, 0x77];
 pub struct Frame<'a> {
     pub codec: Codec,
     pub status: Status,
+    /// None where the frame is too short to say.
+    pub sound: Option<Sound>,
     pub bytes: &'a [u8],
 }
 
 /// A run of bytes that are in no frame.
-#[derive(Clone, Copy, Debug, PartialEq, Eq)]
+#[derive(Clone, Debug, PartialEq, Eq)]
 pub struct Gap {
     pub bytes: u64,
     /// What is wrong with its first byte.
     pub trouble: Trouble,
+    /// The frame whose header begins it, if one does.
+    pub lost: Option<Lost>,
+    /// Whether it is the whole input.
+    pub is_all: bool,
+}
+
+/// What a header says of a frame that is not there, or is bad.
+#[derive(Clone, Copy, Debug, PartialEq, Eq)]
+pub struct Lost {
+    pub sound: Sound,
+    pub bytes: usize,
 }
 
 /// What stands next in an input.
@@ -45,7 +58,7 @@ pub enum Item<'a> {
 pub struct Frames<R> {
     window: Window<R>,
     ahead: Ahead,
-    time: Time,
+    place: Place,
 }
 
 impl<R: Read> Frames<R> {
@@ -53,7 +66,7 @@ impl<R: Read> Frames<R> {
         Frames {
             window: Window::new(input),
             ahead: Ahead::default(),
-            time: Time::default(),
+            place: Place::default(),
         }
     }
 
@@ -61,8 +74,15 @@ impl<R: Read> Frames<R> {
     pub fn place(&self) -> Place {
         Place {
             offset: self.window.offset(),
-            time: self.time,
+            ..self.place
         }
+    }
+
+    /// The next bytes, as many as the input has of the number asked for, without a move.
+    pub fn peek(&mut self, bytes: usize) -> io::Result<&[u8]> {
+        self.window.fill(bytes)?;
+        let held = self.window.held();
+        Ok(held.get(..bytes).unwrap_or(held))
     }
 
     /// What stands next and where, or nothing at the end of the input.
@@ -98,16 +118,20 @@ impl<R: Read> Frames<R> {
     fn take(&mut self, header: Header, status: Status) -> Frame<'_> {
         let codec = header.codec;
         let bytes = self.window.take(header.bytes);
-        self.time += Time::of_frame(codec, bytes);
+        let sound = Sound::of(codec, bytes);
+        self.place.frame += 1;
+        self.place.time += sound.map(|sound| sound.time()).unwrap_or_default();
         Frame {
             codec,
             status,
+            sound,
             bytes,
         }
     }
 
     /// Moves to the next frame, or to the end of the input.
     fn skip(&mut self, trouble: Trouble) -> io::Result<Gap> {
+        let lost = lost(self.window.held());
         let mut bytes = 0;
         loop {
             let step = next_sync(self.window.held());
@@ -115,7 +139,13 @@ impl<R: Read> Frames<R> {
             self.window.fill(LOOK)?;
             if self.window.held().is_empty() || self.judged().is_ok() {
                 let trouble = trouble.before_next(bytes);
-                return Ok(Gap { bytes, trouble });
+                let is_all = self.window.held().is_empty() && self.window.offset() == bytes;
+                return Ok(Gap {
+                    bytes,
+                    trouble,
+                    lost,
+                    is_all,
+                });
             }
         }
     }
@@ -165,6 +195,19 @@ fn whole(bytes: &[u8]) -> Result<(Header, Status), Trouble> {
     };
     let status = core::crc_status(frame, header.codec).map_err(Trouble::Refused)?;
     Ok((header, status))
+}
+
+/// The frame whose header these bytes begin with.
+fn lost(bytes: &[u8]) -> Option<Lost> {
+    let Header {
+        codec,
+        bytes: length,
+    } = probe(bytes).ok()?;
+    let sound = Sound::of(codec, bytes)?;
+    Some(Lost {
+        sound,
+        bytes: length,
+    })
 }
 
 /// How far it is from these bytes' first to the next that may begin a frame: a sync word, or half of one

@@ -1,45 +1,58 @@
 //! What is read: a file, or standard input.
 
-use crate::args::Shown;
-use crate::outcome::{said, Failure};
+use crate::outcome::{said, tell_aside, Failure};
 use crate::progress::Progress;
 use crate::standard::standard;
 use std::ffi::OsStr;
 use std::fs::File;
-use std::io::{self, Read, Seek, SeekFrom};
+use std::io::{self, ErrorKind, IsTerminal, Read, Seek, SeekFrom};
+use std::path::Path;
+use std::sync::atomic::{AtomicBool, Ordering};
 
-/// An open input that shows how far it is read.
+/// An open input.
 pub struct Input {
     source: File,
     size: Option<u64>,
-    read: u64,
-    progress: Option<Progress>,
 }
 
 impl Input {
     /// Opens a file, or standard input for `-`.
     pub fn open(file: &OsStr) -> Result<Input, Failure> {
-        let is_standard = file == "-";
-        let opened = match is_standard {
-            true => standard(io::stdin()),
-            false => File::open(file),
-        };
-        let source = opened.map_err(|e| Failure::io(spoken(file), &e))?;
-        Ok(Input {
-            // Of standard input some may be read already, so that a size would not tell what is left.
-            size: if is_standard { None } else { size(&source) },
-            source,
-            read: 0,
-            progress: None,
-        })
+        Input::opened(file).map_err(|e| Failure::io(spoken(file), &e))
     }
 
-    /// Shows a progress bar once reading takes long, unless all is to be quiet.
-    pub fn with_progress(mut self, file: &OsStr, shown: Shown) -> Input {
-        if !shown.quiet {
-            self.progress = Progress::of_terminal(spoken(file), self.size);
+    fn opened(file: &OsStr) -> io::Result<Input> {
+        if file == "-" {
+            if io::stdin().is_terminal() {
+                tell_aside(
+                    "standard input is the terminal: end it with Ctrl-D, or stop with Ctrl-C",
+                );
+            }
+            let source = standard(io::stdin())?;
+            // Some of it may be read already, so that a size would not tell what is left.
+            return Ok(Input { source, size: None });
         }
-        self
+        let source = File::open(file)?;
+        let size = size(&source);
+        Ok(Input { source, size })
+    }
+
+    /// Whether it has an end that is known: not so of a pipe or a device.
+    pub fn has_size(&self) -> bool {
+        self.size.is_some()
+    }
+
+    pub fn size(&self) -> Option<u64> {
+        self.size
+    }
+
+    /// Shows how far it is read, and reads no more once it is told to stop.
+    pub fn watched<'a>(self, progress: &'a Progress, stop: &'a AtomicBool) -> Watched<'a> {
+        Watched {
+            input: self,
+            progress,
+            stop,
+        }
     }
 
     /// Passes over so many bytes, or all that there are, and says how many.
@@ -53,11 +66,24 @@ impl Input {
 
 impl Read for Input {
     fn read(&mut self, room: &mut [u8]) -> io::Result<usize> {
-        let more = self.source.read(room)?;
-        self.read += more as u64;
-        if let Some(progress) = &mut self.progress {
-            progress.show(self.read);
+        self.source.read(room)
+    }
+}
+
+/// An input that is watched while it is read.
+pub struct Watched<'a> {
+    input: Input,
+    progress: &'a Progress,
+    stop: &'a AtomicBool,
+}
+
+impl Read for Watched<'_> {
+    fn read(&mut self, room: &mut [u8]) -> io::Result<usize> {
+        if self.stop.load(Ordering::Relaxed) {
+            return Err(ErrorKind::Other.into());
         }
+        let more = self.input.read(room)?;
+        self.progress.add(more as u64);
         Ok(more)
     }
 }
@@ -66,6 +92,12 @@ impl Read for Input {
 fn size(file: &File) -> Option<u64> {
     let known = file.metadata().ok()?;
     (known.is_file() && known.len() > 0).then_some(known.len())
+}
+
+/// The size of a plain file by its name.
+pub fn size_of(file: &OsStr) -> Option<u64> {
+    let known = Path::new(file).metadata().ok()?;
+    (file != "-" && known.is_file()).then_some(known.len())
 }
 
 /// An input's name in a message.

@@ -1,6 +1,11 @@
-//! A progress bar on standard error, where that is a terminal and reading takes long.
+//! A progress bar on standard error, where that is a terminal and reading takes long. Several files may be
+//! read at once, and share one bar.
 
+use crate::columns::cut;
+use crate::words::grouped;
 use std::io::{self, IsTerminal, Write};
+use std::sync::atomic::{AtomicU64, Ordering};
+use std::sync::{Mutex, PoisonError};
 use std::time::{Duration, Instant};
 
 /// Before this a run is too short for a bar.
@@ -10,46 +15,80 @@ const PACE: Duration = Duration::from_millis(100);
 /// Signs of a full bar. With a name and any size it keeps within 80 columns: a line that goes on below is not
 /// wiped out.
 const FULL: u64 = 20;
-/// Signs of a name that are shown.
-const NAME: usize = 28;
+/// Columns of a name that are shown.
+const NAME: usize = 24;
 
 pub struct Progress {
+    is_shown: bool,
     name: String,
     size: Option<u64>,
+    read: AtomicU64,
+    bar: Mutex<Bar>,
+}
+
+struct Bar {
     next: Instant,
-    drawn: bool,
+    is_drawn: bool,
 }
 
 impl Progress {
-    /// The bar of a file that is now begun, by its name in messages; none where standard error is no
-    /// terminal.
-    pub fn of_terminal(name: String, size: Option<u64>) -> Option<Progress> {
-        io::stderr().is_terminal().then(|| Progress {
+    /// The bar of what is now begun, by a name and how many bytes there are to read; it is never shown where
+    /// standard error is no terminal, or all is to be quiet.
+    pub fn new(name: String, size: Option<u64>, is_quiet: bool) -> Progress {
+        let next = Instant::now() + PATIENCE;
+        Progress {
+            is_shown: !is_quiet && io::stderr().is_terminal(),
             name,
             size,
-            next: Instant::now() + PATIENCE,
-            drawn: false,
-        })
+            read: AtomicU64::new(0),
+            bar: Mutex::new(Bar {
+                next,
+                is_drawn: false,
+            }),
+        }
     }
 
-    /// Draws the bar, where it is time to.
-    pub fn show(&mut self, read: u64) {
-        let now = Instant::now();
-        if now < self.next {
+    /// So many bytes more are read: draws the bar, where it is time to.
+    pub fn add(&self, bytes: u64) {
+        if !self.is_shown {
             return;
         }
-        self.next = now + PACE;
-        self.drawn = true;
+        let read = self.read.fetch_add(bytes, Ordering::Relaxed) + bytes;
+        // Whoever finds the bar in use leaves it to the one that uses it.
+        let Ok(mut bar) = self.bar.try_lock() else {
+            return;
+        };
+        let now = Instant::now();
+        if now < bar.next {
+            return;
+        }
+        bar.next = now + PACE;
+        bar.is_drawn = true;
         put(&format!("\r{}\x1b[K", line(&self.name, read, self.size)));
+    }
+
+    /// Writes something else, with the line to itself.
+    pub fn around<T>(&self, write: impl FnOnce() -> T) -> T {
+        let mut bar = self.bar.lock().unwrap_or_else(PoisonError::into_inner);
+        bar.wipe();
+        write()
     }
 }
 
-/// The bar is wiped out when the file is done, so that what follows has the line to itself.
+impl Bar {
+    fn wipe(&mut self) {
+        if self.is_drawn {
+            put("\r\x1b[K");
+            self.is_drawn = false;
+        }
+    }
+}
+
+/// The bar is wiped out when all is done, so that what follows has the line to itself.
 impl Drop for Progress {
     fn drop(&mut self) {
-        if self.drawn {
-            put("\r\x1b[K");
-        }
+        let bar = self.bar.get_mut();
+        bar.unwrap_or_else(PoisonError::into_inner).wipe();
     }
 }
 
@@ -60,7 +99,7 @@ fn put(text: &str) {
 }
 
 fn line(name: &str, read: u64, size: Option<u64>) -> String {
-    let name: String = name.chars().take(NAME).collect();
+    let name = cut(name, NAME);
     let Some(size) = size else {
         return format!("{name}  {}", megabytes(read));
     };
@@ -74,12 +113,13 @@ fn line(name: &str, read: u64, size: Option<u64>) -> String {
 }
 
 fn megabytes(bytes: u64) -> String {
-    format!("{} MB", bytes / 1_000_000)
+    format!("{} MB", grouped(bytes / 1_000_000))
 }
 
 #[cfg(test)]
 mod tests {
     use super::*;
+    use crate::columns::columns;
 
     #[test]
     fn a_bar_is_as_full_as_the_file_is_read() {
@@ -87,7 +127,7 @@ mod tests {
         assert_eq!(line("a.ac3", 10_000_000, Some(20_000_000)), half);
         let done = "a.ac3  [####################] 100% of 20 MB";
         assert_eq!(line("a.ac3", 30_000_000, Some(20_000_000)), done);
-        let none = "a.ac3  [....................]   0% of 18446744073709 MB";
+        let none = "a.ac3  [....................]   0% of 18,446,744,073,709 MB";
         assert_eq!(line("a.ac3", 0, Some(u64::MAX)), none);
     }
 
@@ -100,17 +140,13 @@ mod tests {
     }
 
     #[test]
-    fn a_name_keeps_to_its_line() {
-        let told = format!("{}  0 MB", "b".repeat(NAME));
-        assert_eq!(line(&"b".repeat(99), 0, None), told);
-    }
-
-    #[test]
     fn a_line_is_narrower_than_a_terminal() {
-        for size in [None, Some(u64::MAX)] {
-            for read in [0, u64::MAX] {
-                let line = line(&"b".repeat(99), read, size);
-                assert!(line.chars().count() < 80, "{line}");
+        for name in ["b".repeat(99), "音".repeat(99)] {
+            for size in [None, Some(u64::MAX)] {
+                for read in [0, u64::MAX] {
+                    let line = line(&name, read, size);
+                    assert!(columns(&line) < 80, "{line}");
+                }
             }
         }
     }

@@ -1,4 +1,4 @@
-//! Reports, as a table for people, or as JSON or CSV with keys that stay.
+//! Records for programs: JSON, a line of JSON for each, or CSV, with keys that stay.
 
 use crate::args::Format;
 
@@ -12,6 +12,8 @@ pub enum Value {
     Flag(bool),
     /// Nothing to tell: null in JSON, empty in CSV.
     None,
+    One(Record),
+    Many(Vec<Record>),
 }
 
 impl From<Option<u64>> for Value {
@@ -20,67 +22,89 @@ impl From<Option<u64>> for Value {
     }
 }
 
-/// On which side of its column a cell stands.
-#[derive(Clone, Copy, PartialEq, Eq)]
-pub enum Side {
-    Left,
-    Right,
-}
-
-/// A thing that reports are about.
-pub trait Told {
-    /// The columns of a table.
-    const COLUMNS: &'static [(&'static str, Side)];
-
-    /// The keys of a record, which stay as they are.
-    fn keys() -> Vec<&'static str>;
-    /// A value for each key.
-    fn values(&self) -> Vec<Value>;
-    /// A cell for each column.
-    fn cells(&self) -> Vec<String>;
-    /// A line below the cells.
-    fn note(&self) -> Option<String> {
-        None
+impl From<Option<&str>> for Value {
+    fn from(text: Option<&str>) -> Value {
+        text.map_or(Value::None, |text| Value::Text(text.to_string()))
     }
 }
 
-/// A report of these things. Where they are many, a table has their total below it.
-pub fn report<T: Told>(things: &[T], total: Option<String>, format: Format) -> String {
-    match format {
-        Format::Text => text(things, total),
-        Format::Json => json(things),
-        Format::Csv => csv(things),
+impl Value {
+    /// Whether a cell of CSV can hold it.
+    fn is_flat(&self) -> bool {
+        !matches!(self, Value::One(_) | Value::Many(_))
     }
 }
 
-fn text<T: Told>(things: &[T], total: Option<String>) -> String {
-    if things.is_empty() {
-        return String::new();
+/// What a report tells of one thing, by keys.
+#[derive(Clone, Debug, Default, PartialEq, Eq)]
+pub struct Record(Vec<(&'static str, Value)>);
+
+impl Record {
+    pub fn add(&mut self, key: &'static str, value: Value) {
+        self.0.push((key, value));
     }
-    let titles: Vec<String> = T::COLUMNS
-        .iter()
-        .map(|(title, _)| title.to_string())
-        .collect();
-    let rows: Vec<Vec<String>> = things
-        .iter()
-        .map(|thing| thing.cells().iter().map(|cell| printable(cell)).collect())
-        .collect();
-    let width = |at: usize| {
-        let cells = rows.iter().chain([&titles]).filter_map(|row| row.get(at));
-        cells.map(|cell| cell.chars().count()).max().unwrap_or(0)
-    };
-    let widths: Vec<usize> = (0..titles.len()).map(width).collect();
-    let mut text = line::<T>(&titles, &widths);
-    for (thing, row) in things.iter().zip(&rows) {
-        text += &line::<T>(row, &widths);
-        if let Some(note) = thing.note() {
-            text += &format!("    {note}\n");
+
+    fn json(&self) -> String {
+        let pair = |(key, value): &(&str, Value)| format!("\"{key}\": {}", json_value(value));
+        let pairs: Vec<String> = self.0.iter().map(pair).collect();
+        format!("{{{}}}", pairs.join(", "))
+    }
+
+    /// What CSV has of it: the records inside it are left out.
+    fn flat(&self) -> impl Iterator<Item = &(&'static str, Value)> {
+        self.0.iter().filter(|(_, value)| value.is_flat())
+    }
+
+    fn csv_keys(&self) -> String {
+        let keys: Vec<&str> = self.flat().map(|(key, _)| *key).collect();
+        keys.join(",") + "\n"
+    }
+
+    fn csv_line(&self) -> String {
+        let cells: Vec<String> = self.flat().map(|(_, value)| csv_value(value)).collect();
+        cells.join(",") + "\n"
+    }
+}
+
+/// Records that are written as they come.
+pub struct Records {
+    format: Format,
+    is_begun: bool,
+}
+
+impl Records {
+    pub fn new(format: Format) -> Records {
+        let is_begun = false;
+        Records { format, is_begun }
+    }
+
+    /// What is written for the next record.
+    pub fn next(&mut self, record: &Record) -> String {
+        let is_first = !std::mem::replace(&mut self.is_begun, true);
+        match self.format {
+            Format::Json if is_first => format!("[\n  {}", record.json()),
+            Format::Json => format!(",\n  {}", record.json()),
+            Format::Jsonl => record.json() + "\n",
+            Format::Csv if is_first => record.csv_keys() + &record.csv_line(),
+            Format::Csv => record.csv_line(),
+            Format::Text => String::new(),
         }
     }
-    if let Some(total) = total {
-        text += &format!("\n{total}\n");
+
+    /// What is written behind the last record.
+    pub fn end(&self) -> &'static str {
+        match (self.format, self.is_begun) {
+            (Format::Json, true) => "\n]\n",
+            (Format::Json, false) => "[]\n",
+            _ => "",
+        }
     }
-    text
+}
+
+/// A report of one record.
+pub fn alone(record: &Record, format: Format) -> String {
+    let mut records = Records::new(format);
+    records.next(record) + records.end()
 }
 
 /// A text that keeps to its line, and moves nothing on a terminal.
@@ -90,38 +114,10 @@ pub fn printable(text: &str) -> String {
 
 /// Whether a sign moves others: a control sign, the end of a line or a paragraph, or one that turns the
 /// direction of writing.
-fn moves(sign: char) -> bool {
+pub fn moves(sign: char) -> bool {
     sign.is_control()
         || matches!(sign, '\u{61c}' | '\u{200e}' | '\u{200f}')
         || matches!(sign, '\u{2028}'..='\u{202e}' | '\u{2066}'..='\u{2069}')
-}
-
-fn line<T: Told>(cells: &[String], widths: &[usize]) -> String {
-    let cells = cells.iter().zip(widths).zip(T::COLUMNS);
-    let padded: Vec<String> = cells
-        .map(|((cell, width), (_, side))| match side {
-            Side::Left => format!("{cell:<width$}"),
-            Side::Right => format!("{cell:>width$}"),
-        })
-        .collect();
-    format!("{}\n", padded.join("  ").trim_end())
-}
-
-fn json<T: Told>(things: &[T]) -> String {
-    let objects: Vec<String> = things.iter().map(object).collect();
-    match objects.is_empty() {
-        true => "[]\n".to_string(),
-        false => format!("[\n{}\n]\n", objects.join(",\n")),
-    }
-}
-
-fn object<T: Told>(thing: &T) -> String {
-    let pairs: Vec<String> = T::keys()
-        .iter()
-        .zip(&thing.values())
-        .map(|(key, value)| format!("\"{key}\": {}", json_value(value)))
-        .collect();
-    format!("  {{{}}}", pairs.join(", "))
 }
 
 fn json_value(value: &Value) -> String {
@@ -131,6 +127,11 @@ fn json_value(value: &Value) -> String {
         Value::Decimal(number) => number.clone(),
         Value::Flag(flag) => flag.to_string(),
         Value::None => "null".to_string(),
+        Value::One(record) => record.json(),
+        Value::Many(records) => {
+            let records: Vec<String> = records.iter().map(Record::json).collect();
+            format!("[{}]", records.join(", "))
+        }
     }
 }
 
@@ -144,15 +145,6 @@ fn json_string(text: &str) -> String {
         }
     }
     quoted + "\""
-}
-
-fn csv<T: Told>(things: &[T]) -> String {
-    let mut text = T::keys().join(",") + "\n";
-    for thing in things {
-        let cells: Vec<String> = thing.values().iter().map(csv_value).collect();
-        text += &(cells.join(",") + "\n");
-    }
-    text
 }
 
 fn csv_value(value: &Value) -> String {
@@ -170,6 +162,31 @@ fn csv_value(value: &Value) -> String {
 mod tests {
     use super::*;
 
+    fn record(name: &str) -> Record {
+        let mut inner = Record::default();
+        inner.add("byte", Value::Number(7));
+        let mut record = Record::default();
+        record.add("file", Value::Text(name.to_string()));
+        record.add("places", Value::Many(vec![inner.clone(), inner]));
+        record.add("good", Value::Flag(true));
+        record
+    }
+
+    #[test]
+    fn records_are_written_as_they_come() {
+        let written = |format| {
+            let mut records = Records::new(format);
+            records.next(&record("a")) + &records.next(&record("b")) + records.end()
+        };
+        let [a, b] = ["a", "b"].map(|name| {
+            format!("{{\"file\": \"{name}\", \"places\": [{{\"byte\": 7}}, {{\"byte\": 7}}], \"good\": true}}")
+        });
+        assert_eq!(written(Format::Json), format!("[\n  {a},\n  {b}\n]\n"));
+        assert_eq!(written(Format::Jsonl), format!("{a}\n{b}\n"));
+        assert_eq!(written(Format::Csv), "file,good\na,true\nb,true\n");
+        assert_eq!(Records::new(Format::Json).end(), "[]\n");
+    }
+
     #[test]
     fn json_text_is_escaped() {
         let text = "a\"b\\c\n\u{7f}\u{202e}é";
@@ -186,7 +203,7 @@ mod tests {
     }
 
     #[test]
-    fn a_table_shows_no_sign_that_moves_others() {
+    fn a_text_shows_no_sign_that_moves_others() {
         assert_eq!(printable("a\n\u{1b}b"), "a??b");
         assert_eq!(printable("\u{202e}gnp.3ca\u{202c}"), "?gnp.3ca?");
         assert_eq!(printable("\u{61c}\u{200e}\u{200f}"), "???");

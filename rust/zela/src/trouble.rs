@@ -1,19 +1,21 @@
-//! What is wrong in a file, and where.
+//! What is told of a file, and where.
 
 use crate::clock::Time;
 use crate::core::{Refusal, Status, Why};
-use crate::report::Value;
+use crate::report::{Record, Value};
+use crate::words::{counted, grouped};
 use std::fmt;
 
-/// Where something stands: in bytes, and in the time of the frames before it.
+/// Where something stands: in bytes, in frames, and in the time of the frames before it, each from 0.
 #[derive(Clone, Copy, Debug, Default, PartialEq, Eq)]
 pub struct Place {
     pub offset: u64,
+    pub frame: u64,
     pub time: Time,
 }
 
-/// What is wrong at a place.
-#[derive(Clone, Copy, Debug, PartialEq, Eq)]
+/// What there is to tell of a place.
+#[derive(Clone, Debug, PartialEq, Eq)]
 pub enum Trouble {
     /// The core refuses what stands there.
     Refused(Refusal),
@@ -23,6 +25,8 @@ pub enum Trouble {
     Checksum(Status),
     /// So they are, and nothing shows that it ends where its header says.
     Lone { status: Status, whole: u64 },
+    /// From here on the sound has another format.
+    Changed { was: Box<str>, is: Box<str> },
 }
 
 impl Trouble {
@@ -32,7 +36,7 @@ impl Trouble {
         match self {
             Trouble::Refused(refusal) => Some(refusal.why.number()),
             Trouble::Cut { .. } => Some(Why::PastLimit.number()),
-            Trouble::Checksum(_) | Trouble::Lone { .. } => None,
+            _ => None,
         }
     }
 
@@ -45,6 +49,16 @@ impl Trouble {
             known => known,
         }
     }
+
+    /// One word for programs.
+    fn what(&self) -> &'static str {
+        match self {
+            Trouble::Refused(_) | Trouble::Lone { .. } => "gap",
+            Trouble::Cut { .. } => "cut",
+            Trouble::Checksum(_) => "checksum",
+            Trouble::Changed { .. } => "change",
+        }
+    }
 }
 
 impl fmt::Display for Trouble {
@@ -52,13 +66,19 @@ impl fmt::Display for Trouble {
         match self {
             Trouble::Refused(refusal) => write!(f, "{}", refusal.why),
             Trouble::Cut { have, whole } => {
-                write!(f, "the frame breaks off after {have} of {whole} bytes")
+                let short = grouped(whole.saturating_sub(*have));
+                let (have, whole) = (grouped(*have), counted(*whole, "byte", "bytes"));
+                write!(
+                    f,
+                    "the frame breaks off after {have} of {whole}, {short} short"
+                )
             }
             Trouble::Checksum(status) => f.write_str(bad_sums(*status)),
             Trouble::Lone { status, .. } => {
                 let bad = bad_sums(*status);
                 write!(f, "{bad}, and no header stands where it would end")
             }
+            Trouble::Changed { was, is } => write!(f, "the format changes from {was} to {is}"),
         }
     }
 }
@@ -71,33 +91,87 @@ fn bad_sums(status: Status) -> &'static str {
     }
 }
 
-/// A bad place.
-#[derive(Clone, Copy, Debug, PartialEq, Eq)]
+/// A place that is told.
+#[derive(Clone, Debug, PartialEq, Eq)]
 pub struct Bad {
     pub place: Place,
+    /// How many bytes it is about.
+    pub bytes: u64,
     pub trouble: Trouble,
 }
 
-/// The keys of a bad place.
-pub const BAD_KEYS: [&str; 4] = ["bad_offset", "bad_seconds", "bad_refusal", "bad_words"];
+/// The keys of a bad place in the record of a file.
+const BAD_KEYS: [&str; 4] = ["bad_offset", "bad_seconds", "bad_refusal", "bad_words"];
 
-/// The values of a bad place, if there is one.
-pub fn bad_values(bad: Option<Bad>) -> [Value; BAD_KEYS.len()] {
-    let Some(Bad { place, trouble }) = bad else {
-        return [const { Value::None }; BAD_KEYS.len()];
-    };
-    [
-        Value::Number(place.offset),
-        Value::Decimal(place.time.seconds()),
-        trouble.number().map(u64::from).into(),
-        Value::Text(trouble.to_string()),
-    ]
+impl Bad {
+    pub fn new(place: Place, bytes: u64, trouble: Trouble) -> Bad {
+        Bad {
+            place,
+            bytes,
+            trouble,
+        }
+    }
+
+    /// What the core says of a file's first bytes.
+    pub fn refused(refusal: Refusal) -> Bad {
+        Bad::new(Place::default(), 0, Trouble::Refused(refusal))
+    }
+
+    /// The first bad place in the record of a file, if there is one.
+    pub fn add_first(record: &mut Record, bad: Option<&Bad>) {
+        let values = match bad {
+            None => [const { Value::None }; BAD_KEYS.len()],
+            Some(Bad { place, trouble, .. }) => [
+                Value::Number(place.offset),
+                Value::Decimal(place.time.seconds()),
+                trouble.number().map(u64::from).into(),
+                Value::Text(trouble.to_string()),
+            ],
+        };
+        for (key, value) in BAD_KEYS.into_iter().zip(values) {
+            record.add(key, value);
+        }
+    }
+
+    /// The place as a record of its own.
+    pub fn record(&self) -> Record {
+        let Bad {
+            place,
+            bytes,
+            trouble,
+        } = self;
+        let mut record = Record::default();
+        record.add("byte", Value::Number(place.offset));
+        record.add("frame", Value::Number(place.frame));
+        record.add("seconds", Value::Decimal(place.time.seconds()));
+        record.add("bytes", Value::Number(*bytes));
+        record.add("what", Value::Text(trouble.what().to_string()));
+        record.add("refusal", trouble.number().map(u64::from).into());
+        record.add("words", Value::Text(trouble.to_string()));
+        record
+    }
+
+    pub fn is_change(&self) -> bool {
+        self.trouble.what() == "change"
+    }
 }
 
 impl fmt::Display for Bad {
     fn fmt(&self, f: &mut fmt::Formatter<'_>) -> fmt::Result {
-        let Place { offset, time } = self.place;
-        write!(f, "byte {offset}, {time}: ")?;
+        let Place {
+            offset,
+            frame,
+            time,
+        } = self.place;
+        write!(
+            f,
+            "byte {}, frame {}, {time}: ",
+            grouped(offset),
+            grouped(frame)
+        )?;
+        if self.trouble.what() == "gap" {
+            write!(f, "{} in no frame: ", counted(self.bytes, "byte", "bytes"))?;
+        }
         if let Some(number) = self.trouble.number() {
             write!(f, "refusal {number}, ")?;
         }

@@ -10,7 +10,7 @@ const WHOLE: usize = 256;
 const FILES: usize = if zelamodurk::EMULATED { 200 } else { 5000 };
 
 /// An item without its bytes.
-#[derive(Clone, Copy, Debug, PartialEq, Eq)]
+#[derive(Clone, Debug, PartialEq, Eq)]
 enum Seen {
     Frame(u64, usize, Status),
     Gap(u64, u64, Trouble),
@@ -165,9 +165,9 @@ fn headers_without_end_take_no_frame_and_no_long_time() {
 /// The rule as it is written, over a whole input and with nothing kept from place to place.
 fn plainly(bytes: &[u8]) -> Vec<Seen> {
     let stand: Vec<_> = (0..bytes.len()).map(|at| whole(&bytes[at..])).collect();
-    let is_good = |at: usize| stand[at].is_ok_and(|(_, status)| status.is_good());
+    let is_good = |at: usize| matches!(&stand[at], Ok((_, status)) if status.is_good());
     let judged = |at: usize| {
-        let (header, status) = stand[at]?;
+        let (header, status) = stand[at].clone()?;
         let end = at + header.bytes;
         let ends_well = end == bytes.len() || probe(&bytes[end..]).is_ok();
         let whole = header.bytes as u64;

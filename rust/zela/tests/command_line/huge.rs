@@ -1,7 +1,7 @@
 //! Long inputs: memory stays flat, and places past 4 GiB are told.
 
 use crate::json::Json;
-use crate::room::{ac3, sample, Ran, Room};
+use crate::room::{ac3, sample, wrong, Ran, Room};
 use std::fs::{self, File};
 use std::io::{Seek, SeekFrom, Write};
 use std::process::{Child, Stdio};
@@ -43,6 +43,26 @@ fn a_long_stream_takes_no_memory() {
 }
 
 #[test]
+fn bad_places_without_end_take_no_memory() {
+    // Every frame is bad, and all places are told as they are found.
+    let frame = wrong(ac3()[..256].to_vec(), 200, 1);
+    let room = Room::of("without_end");
+    let mut command = room.command(&["check", "--all", "-"]);
+    command.stdin(Stdio::piped()).stdout(Stdio::null());
+    let mut child = command.stderr(Stdio::piped()).spawn().unwrap();
+    let mut input = child.stdin.take().unwrap();
+    let stream = frame.repeat(100);
+    for _ in 0..PASSES {
+        input.write_all(&stream).unwrap();
+    }
+    let held = peak(&child);
+    drop(input);
+    let ran = Ran::of(child.wait_with_output().unwrap());
+    assert_eq!((ran.status, ran.err.as_str()), (1, ""));
+    assert!(held < MEMORY, "{held} kB");
+}
+
+#[test]
 fn a_huge_file_with_holes() {
     let room = Room::of("a_huge_file");
     let frame = &ac3()[..256];
@@ -53,9 +73,13 @@ fn a_huge_file_with_holes() {
     file.write_all(&[0; 10]).unwrap();
     drop(file);
     let table = "\
-file  codec       bytes  frames        length   bit rate  crc1  crc2     skipped
-huge  AC-3   4294968562       2  00:00:00.064  64 kbit/s  good  good  4294968050
-    first bad place: byte 256, 00:00:00.032: refusal 2, the first 16 bits aren't 0x0B77
+state  codec   layout      kHz  kbit/s   frames        length  file
+bad    AC-3    1/0          48      64        2  00:00:00.064  huge
+    2 bad places: 4,294,968,050 bytes in no frame at 2 places
+    byte 256, frame 1, 00:00:00.032: 4,294,968,040 bytes in no frame: refusal 2, the first 16 bits aren't 0x0B77
+    byte 4,294,968,552, frame 2, 00:00:00.064: 10 bytes in no frame: refusal 2, the first 16 bits aren't 0x0B77
+    where: [xxxxxxxxxxxxxxxxxxxxxxxxxxxxxxxxxxxxxxxxxxxxxxxxxxxxxxxxxxxx]
+    times count whole frames alone: behind lost bytes they are early
 ";
     room.writes(&["check", "huge"], 1, table, "");
     let bit = ((1u64 << 32) + 1000) * 8;

@@ -2,12 +2,17 @@
 //! the samples, good ones and bad.
 #![forbid(unsafe_code)]
 
+mod batch;
 mod bits;
 mod check;
 mod damage;
+mod fix;
 mod formats;
 mod huge;
 mod json;
-mod repair;
+mod kinds;
+mod readme;
+mod reseal;
 mod room;
+mod terminal;
 mod usage;
