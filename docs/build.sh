@@ -48,7 +48,7 @@ prove() { # CRATE WHAT HOW-LONG: proves and compiles it with all below it
     say "proving $2, $3"
     said=$(mktemp)
     if rt staticlib "$1" 2>&1 | tee "$said" | sed -u -n 's/^rt: \([a-z_]* proved\)/  \1/p'; then
-        say "proved: $2"
+        echo "  $1 proved"
         rm "$said"
     else
         tail -n 20 "$said" >&2

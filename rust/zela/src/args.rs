@@ -49,6 +49,11 @@ pub struct Check {
 }
 
 impl Check {
+    /// Whether all places of a file are held until it is done: the array of one file is one thing.
+    pub fn holds_all(&self) -> bool {
+        self.all && self.shown.format == Format::Json
+    }
+
     /// How many places of a file are told as they are found, before the file's own row or record: the first
     /// ones of an input without a known end, and all where all are asked for.
     pub fn told_at_once(&self, has_size: bool) -> usize {
@@ -163,7 +168,9 @@ fn topic(word: &OsStr) -> Option<&'static Topic> {
 
 /// The command that the words ask for, the program's name left out.
 pub fn parse(words: impl Iterator<Item = OsString>) -> Result<Command, Failure> {
-    let words = sort(words)?;
+    let words: Vec<OsString> = words.collect();
+    let named = words.iter().find_map(|word| topic(word));
+    let words = sort(words.into_iter(), named.map(|topic| topic.name))?;
     let command = words.rest.first();
     if words.has("--help") {
         let topic = command.and_then(|word| topic(word));
@@ -231,15 +238,19 @@ fn help(words: &[OsString]) -> Result<Command, Failure> {
     }
 }
 
-fn sort(mut words: impl Iterator<Item = OsString>) -> Result<Words, Failure> {
+/// Sorts the words; where one can't be, the help of the command that is named is shown as a way out.
+fn sort(
+    mut words: impl Iterator<Item = OsString>,
+    command: Option<&str>,
+) -> Result<Words, Failure> {
     let mut sorted = Words::default();
     while let Some(word) = words.next() {
         let text = word.to_str().unwrap_or_default();
         let is_option = word.len() > 1 && word.as_encoded_bytes().starts_with(b"-");
         match is_option {
             _ if text == "--" => sorted.rest.extend(words.by_ref()),
-            true if text.starts_with("--") => sorted.options.push(long(text, &mut words)?),
-            true => short(&word, &mut words, &mut sorted.options)?,
+            true if text.starts_with("--") => sorted.options.push(long(text, &mut words, command)?),
+            true => short(&word, &mut words, &mut sorted.options, command)?,
             false => sorted.rest.push(word),
         }
     }
@@ -249,16 +260,20 @@ fn sort(mut words: impl Iterator<Item = OsString>) -> Result<Words, Failure> {
 type Given = (&'static str, Option<OsString>);
 
 /// An option by its long word; its value may stand behind a sign of equality, or be the next word.
-fn long(text: &str, words: &mut impl Iterator<Item = OsString>) -> Result<Given, Failure> {
+fn long(
+    text: &str,
+    words: &mut impl Iterator<Item = OsString>,
+    command: Option<&str>,
+) -> Result<Given, Failure> {
     let (own, value) = match text.split_once('=') {
         Some((own, value)) => (own, Some(OsString::from(value))),
         None => (text, None),
     };
     let Some(known) = KNOWN.iter().find(|known| known.long == own) else {
-        return no_option(OsStr::new(text));
+        return no_option(OsStr::new(own), command);
     };
     match (known.has_value, value) {
-        (false, Some(_)) => misuse(format!("{own} takes no value"), None),
+        (false, Some(_)) => misuse(format!("{own} takes no value"), command),
         (true, None) => Ok((known.long, words.next())),
         (_, value) => Ok((known.long, value)),
     }
@@ -269,15 +284,16 @@ fn short(
     word: &OsStr,
     words: &mut impl Iterator<Item = OsString>,
     options: &mut Vec<Given>,
+    command: Option<&str>,
 ) -> Result<(), Failure> {
     let mut letters = word.to_str().unwrap_or_default().chars();
     letters.next();
     if letters.as_str().is_empty() {
-        return no_option(word);
+        return no_option(word, command);
     }
     while let Some(letter) = letters.next() {
         let Some(known) = KNOWN.iter().find(|known| known.short == Some(letter)) else {
-            return no_option(word);
+            return no_option(word, command);
         };
         if !known.has_value {
             options.push((known.long, None));
@@ -293,11 +309,14 @@ fn short(
     Ok(())
 }
 
-fn no_option<T>(word: &OsStr) -> Result<T, Failure> {
+fn no_option<T>(word: &OsStr, command: Option<&str>) -> Result<T, Failure> {
     let longs = KNOWN.map(|known| known.long);
-    let meant = nearest(&word.to_string_lossy(), &longs);
-    let meant = meant.map_or(String::new(), |meant| format!("; did you mean {meant}?"));
-    misuse(format!("no such option: {}{meant}", said(word)), None)
+    let meant = match nearest(&word.to_string_lossy(), &longs) {
+        Some(meant) => format!("; did you mean {meant}?"),
+        None if Path::new(word).exists() => format!("; to name that file: {}", typed(word)),
+        None => String::new(),
+    };
+    misuse(format!("no such option: {}{meant}", said(word)), command)
 }
 
 fn shown(words: &Words, command: &str) -> Result<Shown, Failure> {

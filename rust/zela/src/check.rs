@@ -18,10 +18,9 @@ use crate::words::{counted, grouped};
 use std::collections::VecDeque;
 use std::ffi::OsStr;
 use std::io::{self, IsTerminal};
-use std::sync::atomic::{AtomicBool, Ordering};
 use std::sync::mpsc::{channel, sync_channel, Receiver, Sender, SyncSender};
 use std::sync::{Mutex, PoisonError};
-use std::thread;
+use std::{process, thread};
 
 /// How many places of a file are told, unless all are asked for.
 pub const TOLD: usize = 10;
@@ -33,6 +32,8 @@ const AHEAD: usize = 256;
 /// What a reader sends to the writer.
 enum Event {
     Place(Bad),
+    /// Further places are not sent.
+    Enough,
     Done(Box<Summary>),
 }
 
@@ -43,18 +44,19 @@ type Job<'a> = (&'a Entry, SyncSender<Event>);
 pub fn run(asked: &Check) -> Result<Outcome, Failure> {
     let listing = Listing::of(&asked.files, asked.is_recursive);
     let progress = progress_of(&listing, asked.shown.quiet);
-    let stop = AtomicBool::new(false);
     let (jobs, taken) = channel::<Job<'_>>();
     let taken = Mutex::new(taken);
     let workers = asked.jobs.min(listing.entries.len());
     thread::scope(|scope| {
         for _ in 0..workers {
-            scope.spawn(|| work(&taken, asked, &progress, &stop));
+            scope.spawn(|| work(&taken, asked, &progress));
         }
         let told = Writer::new(asked, &progress).write_all(&listing, jobs);
-        // Readers of files that nobody will hear of end soon.
-        stop.store(true, Ordering::Relaxed);
-        told
+        match told {
+            Ok(outcome) => Ok(outcome),
+            // Readers may wait for an input that never comes, and nobody would hear of it.
+            Err(failure) => process::exit(failure.tell() as i32),
+        }
     })
 }
 
@@ -73,7 +75,7 @@ fn progress_of(listing: &Listing, is_quiet: bool) -> Progress {
 }
 
 /// Reads files as long as there are any.
-fn work(taken: &Mutex<Receiver<Job<'_>>>, asked: &Check, progress: &Progress, stop: &AtomicBool) {
+fn work(taken: &Mutex<Receiver<Job<'_>>>, asked: &Check, progress: &Progress) {
     loop {
         let next = taken.lock().unwrap_or_else(PoisonError::into_inner).recv();
         let Ok((entry, events)) = next else {
@@ -81,7 +83,7 @@ fn work(taken: &Mutex<Receiver<Job<'_>>>, asked: &Check, progress: &Progress, st
         };
         let mut summary = Summary::of(entry, asked);
         if summary.failure.is_none() {
-            let read = read(&mut summary, asked, progress, stop, &events);
+            let read = read(&mut summary, asked, progress, &events);
             summary.failure = read.err();
         }
         // A writer that is gone needs no summary.
@@ -93,26 +95,29 @@ fn read(
     summary: &mut Summary,
     asked: &Check,
     progress: &Progress,
-    stop: &AtomicBool,
     events: &SyncSender<Event>,
 ) -> Result<(), Failure> {
     let file = summary.file.clone();
     let input = Input::open(&file)?;
-    let (size, mut left) = (input.size(), asked.told_at_once(input.has_size()));
-    let mut found = |bad: &Bad| {
-        if left > 0 {
-            left -= 1;
-            let _ = events.send(Event::Place(bad.clone()));
-        }
+    let (size, most) = (input.size(), asked.told_at_once(input.has_size()));
+    let mut found = 0;
+    let mut tell = |bad: &Bad| {
+        found += 1;
+        // A writer that is gone hears nothing.
+        let _ = match () {
+            () if found <= most => events.send(Event::Place(bad.clone())),
+            () if found == most + 1 && most > 0 => events.send(Event::Enough),
+            () => Ok(()),
+        };
     };
-    let read = summary.read(input.watched(progress, stop), &mut found);
+    let read = summary.read(input.watched(progress), &mut tell);
     summary.bytes = summary.bytes.or(size);
     read.map_err(|e| Failure::io(spoken(&file), &e))
 }
 
 impl Summary {
     fn of(entry: &Entry, asked: &Check) -> Summary {
-        let holds_all = asked.all && asked.shown.format == Format::Json;
+        let holds_all = asked.holds_all();
         Summary {
             file: entry.file.clone(),
             changes_are_allowed: asked.allows_changes,
@@ -143,15 +148,17 @@ impl Summary {
         record.add("crc2_bad", Value::Number(self.crc2.bad));
         record.add("skipped_bytes", Value::Number(self.skipped));
         Bad::add_first(&mut record, self.first_bad.as_ref());
-        let error = self.failure.as_ref().map(|failure| failure.words.as_str());
-        record.add("error", error.into());
-        record.add("kind", self.kind.map(|kind| kind.name).into());
+        let words = self.failure.as_ref().map(|failure| failure.words.as_str());
+        record.add("error", words.filter(|_| !self.is_wrong).into());
+        let kind = self.kind.map(|kind| kind.name);
+        record.add("kind", kind.or(words.filter(|_| self.is_wrong)).into());
         record.add("layout", self.formats.layout().as_deref().into());
         record.add("sample_rate", self.formats.rate().into());
         let varies = self.formats.bit_rate_varies();
         record.add("bit_rate_varies", Value::Flag(varies));
         record.add("bad_places", Value::Number(self.bad()));
         record.add("format_changes", Value::Number(self.changes));
+        record.add("state", Value::Text(self.state().word().to_string()));
         let places = self.places.iter().map(Bad::record).collect();
         record.add("places", Value::Many(places));
         record
@@ -231,8 +238,14 @@ impl Writer<'_> {
     ) -> Result<Outcome, Failure> {
         let mut entries = listing.entries.iter();
         let mut begun = VecDeque::new();
+        // What is held of a file that waits for its turn is small, or else few wait.
+        let ahead = if self.asked.holds_all() {
+            self.asked.jobs
+        } else {
+            AHEAD
+        };
         loop {
-            for entry in entries.by_ref().take(AHEAD - begun.len()) {
+            for entry in entries.by_ref().take(ahead - begun.len()) {
                 let (sender, events) = sync_channel(WAITING);
                 // The readers are there until this ends.
                 let _ = jobs.send((entry, sender));
@@ -259,6 +272,7 @@ impl Writer<'_> {
                     told_at_once += 1;
                     self.place(file, &bad, told_at_once == 1)
                 }
+                Event::Enough => self.enough(),
                 Event::Done(summary) => self.file(&summary, told_at_once > 0),
             };
             self.put(&text)?;
@@ -275,6 +289,13 @@ impl Writer<'_> {
                 record.add("place", Value::One(bad.record()));
                 self.records.next(&record)
             }
+        }
+    }
+
+    fn enough(&self) -> String {
+        match self.asked.shown.format {
+            Format::Text => Table::enough(),
+            _ => String::new(),
         }
     }
 

@@ -1,17 +1,17 @@
 //! `zela fix`: the good frames of a damaged file, with the bad ones left out or replaced.
 //!
-//! Frames are written by units (`formats`), so that what is written has no frame of one substream without the
+//! Frames are written by units (`units`), so that what is written has no frame of one substream without the
 //! others: a unit that lacks a frame by damage is left out as a whole.
 
 use crate::args::{Instead, Rewrite};
-use crate::formats::begins_unit;
 use crate::frames::{Frame, Item, Lost};
 use crate::outcome::{Failure, Outcome};
 use crate::report::{Record, Value};
 use crate::rewrite::{self, Done, Fate, Places, Put, Way};
-use crate::sound::{Format, Sound};
-use crate::stand_in::StandIns;
+use crate::sound::{Format, Sound, Substream};
+use crate::stand_in::{Filling, StandIns};
 use crate::trouble::{Bad, Place, Trouble};
+use crate::units::Unit;
 use crate::words::counted;
 
 /// Writes the good frames of a file.
@@ -19,41 +19,41 @@ pub fn run(asked: &Rewrite, instead: Instead) -> Result<Outcome, Failure> {
     let way = Fix {
         instead,
         stand_ins: StandIns::default(),
-        unit: Unit::default(),
-        whole: 0,
+        now: Held::default(),
+        whole: Vec::new(),
         held: Vec::new(),
+        held_bytes: 0,
         has_first: false,
         frames: 0,
         repeated: 0,
         incomplete: 0,
+        written: Vec::new(),
+        changes: 0,
         bad: Places::new(asked),
     };
     rewrite::run(asked, way)
 }
 
-/// How many bytes are held until it is known how many frames a whole unit has.
+/// What leaving out means for what follows.
+const EARLIER: &str =
+    "What follows a place comes earlier by what is left out; --bad repeat puts earlier frames there.";
+
+/// How many bytes are held until it is known which frames a whole unit has.
 const HELD: usize = 1 << 20;
 
 /// A unit that is not written yet.
 #[derive(Clone, Default)]
-struct Unit {
-    formats: Vec<Format>,
+struct Held {
+    unit: Unit,
     bytes: Vec<u8>,
     /// For each of its frames that stands in for a lost one, the number of the bad place.
     repeated: Vec<u64>,
-    /// Whether something beside it or in it is lost.
-    is_damaged: bool,
 }
 
-impl Unit {
+impl Held {
     fn add(&mut self, sound: Sound, bytes: &[u8]) {
-        self.formats.push(sound.format);
+        self.unit.push(sound.format);
         self.bytes.extend_from_slice(bytes);
-    }
-
-    fn has_first(&self) -> bool {
-        let first = self.formats.first();
-        first.is_some_and(|format| format.substream.is_first())
     }
 }
 
@@ -62,11 +62,12 @@ impl Unit {
 struct Fix {
     instead: Instead,
     stand_ins: StandIns,
-    unit: Unit,
-    /// How many frames the last unit had that nothing beside was lost; 0 before there is one.
-    whole: usize,
-    /// The units before that, all of them beside damage.
-    held: Vec<Unit>,
+    now: Held,
+    /// The frames of the last unit that nothing was lost beside; none before there is one.
+    whole: Vec<Format>,
+    /// The units before that, all of them beside damage, and how many bytes they have.
+    held: Vec<Held>,
+    held_bytes: usize,
     /// Whether a unit began with independent substream 0.
     has_first: bool,
     frames: u64,
@@ -74,42 +75,45 @@ struct Fix {
     repeated: u64,
     /// How many frames are left out that are good, since others of their units are lost.
     incomplete: u64,
+    /// The frames of the last unit that was written, and how often they were others than before.
+    written: Vec<Format>,
+    changes: u64,
     bad: Places,
 }
 
 impl Fix {
     fn good(&mut self, sound: Sound, frame: &Frame<'_>, put: &mut Put<'_>) -> Result<(), Failure> {
         self.make_room(sound, put)?;
-        self.unit.add(sound, frame.bytes);
+        self.now.add(sound, frame.bytes);
         self.stand_ins.keep(sound, frame.bytes);
         Ok(())
     }
 
     /// Takes leave of the unit where the next frame begins another.
     fn make_room(&mut self, next: Sound, put: &mut Put<'_>) -> Result<(), Failure> {
-        if !begins_unit(&self.unit.formats, &next.format) {
+        if !self.now.unit.is_before(&next.format) {
             return Ok(());
         }
-        // Behind damage, the first frame of a unit that begins with another substream may be lost.
-        let is_damaged = self.unit.is_damaged && !next.format.substream.is_first();
+        let is_broken = self.now.unit.is_broken;
         self.close(put)?;
-        self.unit.is_damaged = is_damaged;
+        self.now.unit.is_broken = is_broken;
+        self.now.unit.begin(&next.format);
         Ok(())
     }
 
     /// The unit has no more frames, but for those that stand in for what it lacks.
     fn close(&mut self, put: &mut Put<'_>) -> Result<(), Failure> {
-        if self.unit.is_damaged && self.instead == Instead::LastGood {
+        if self.now.unit.is_broken && self.instead == Instead::LastGood {
             self.complete();
         }
-        let unit = std::mem::take(&mut self.unit);
-        if !unit.is_damaged && !unit.formats.is_empty() {
-            self.whole = unit.formats.len();
+        let now = std::mem::take(&mut self.now);
+        if !now.unit.is_broken && !now.unit.formats.is_empty() {
+            self.whole.clone_from(&now.unit.formats);
         }
-        self.has_first |= unit.has_first();
-        self.held.push(unit);
-        let held: usize = self.held.iter().map(|unit| unit.bytes.len()).sum();
-        match self.whole > 0 || held > HELD {
+        self.has_first |= now.unit.has_first();
+        self.held_bytes += now.bytes.len();
+        self.held.push(now);
+        match !self.whole.is_empty() || self.held_bytes > HELD {
             true => self.write_held(put),
             false => Ok(()),
         }
@@ -118,59 +122,91 @@ impl Fix {
     fn complete(&mut self) {
         while let Some(at) = self
             .stand_ins
-            .completing(|sound| begins_unit(&self.unit.formats, &sound.format))
+            .completing(|sound| self.now.unit.is_before(&sound.format))
         {
             self.stand_in(at);
         }
     }
 
-    /// Writes the units that are held, but for those that lack frames.
+    /// Writes the units that are held, but for broken ones with other substreams than they should have.
     fn write_held(&mut self, put: &mut Put<'_>) -> Result<(), Failure> {
-        let most = self.held.iter().map(|unit| unit.formats.len()).max();
-        let whole = if self.whole > 0 {
-            self.whole
-        } else {
-            most.unwrap_or(0)
-        };
-        for unit in std::mem::take(&mut self.held) {
-            let (frames, repeated) = (unit.formats.len(), unit.repeated.len());
-            let lacks_first = self.has_first && !unit.has_first();
-            if unit.is_damaged && (frames < whole || lacks_first) {
+        let longest = self.longest();
+        self.held_bytes = 0;
+        for held in std::mem::take(&mut self.held) {
+            let (frames, repeated) = (held.unit.formats.len(), held.repeated.len());
+            if held.unit.is_broken && self.is_other(&held.unit, &longest) {
                 self.incomplete += (frames - repeated) as u64;
                 continue;
             }
             self.frames += frames as u64;
             self.repeated += repeated as u64;
-            unit.repeated
+            held.repeated
                 .iter()
                 .for_each(|place| self.bad.stands_in(*place));
-            put(&unit.bytes)?;
+            put(&held.bytes)?;
+            self.compare(held.unit);
         }
         Ok(())
+    }
+
+    /// The most frames that a held unit has with its first one.
+    fn longest(&self) -> Vec<Format> {
+        let units = self.held.iter().map(|held| &held.unit);
+        let units = units.filter(|unit| unit.has_first() || !self.has_first);
+        let longest = units.max_by_key(|unit| unit.formats.len());
+        longest.map_or(Vec::new(), |unit| unit.formats.clone())
+    }
+
+    /// Whether a broken unit has other substreams than whole ones; before one is known, than the longest.
+    fn is_other(&self, unit: &Unit, longest: &[Format]) -> bool {
+        let whole = if self.whole.is_empty() {
+            longest
+        } else {
+            &self.whole
+        };
+        let substreams = |formats: &[Format]| -> Vec<Substream> {
+            formats.iter().map(|format| format.substream).collect()
+        };
+        substreams(&unit.formats) != substreams(whole)
+    }
+
+    /// Counts the changes of format that stay.
+    fn compare(&mut self, unit: Unit) {
+        if unit.formats.is_empty() {
+            return;
+        }
+        let is_other = !self.written.is_empty() && self.written != unit.formats;
+        self.changes += u64::from(is_other);
+        self.written = unit.formats;
     }
 
     /// Puts what stands in for a bad place. The units on both sides of it may lack a frame.
     fn bad(&mut self, bad: Bad, lost: Option<Lost>, put: &mut Put<'_>) -> Result<(), Failure> {
         let bytes = bad.bytes;
         self.bad.add(bad);
-        self.unit.is_damaged = true;
-        if self.instead == Instead::LastGood {
-            self.fill(lost, bytes, put)?;
+        self.now.unit.is_broken = true;
+        let stands_in = self.instead == Instead::LastGood && self.fill(lost, bytes, put)? > 0;
+        // What follows a stand-in is not cut off from it.
+        if !stands_in {
+            self.now.unit.interrupt();
         }
-        self.unit.is_damaged = true;
         Ok(())
     }
 
-    /// Adds the frames that stand in for so many lost bytes.
-    fn fill(&mut self, lost: Option<Lost>, bytes: u64, put: &mut Put<'_>) -> Result<(), Failure> {
-        let mut filling = self.stand_ins.filling(lost, bytes);
-        while let Some(at) = self.stand_ins.candidate(&filling) {
-            if let Some(sound) = self.stand_ins.sound(at) {
-                self.make_room(sound, put)?;
-            }
+    /// Adds the frames that stand in for so many lost bytes, and says how many there are.
+    fn fill(&mut self, lost: Option<Lost>, bytes: u64, put: &mut Put<'_>) -> Result<u64, Failure> {
+        let (mut filling, mut count) = (self.stand_ins.filling(lost, bytes), 0);
+        while let Some((at, sound)) = self.next(&filling) {
+            self.make_room(sound, put)?;
             filling.add(self.stand_in(at));
+            count += 1;
         }
-        Ok(())
+        Ok(count)
+    }
+
+    fn next(&self, filling: &Filling) -> Option<(usize, Sound)> {
+        let at = self.stand_ins.candidate(filling)?;
+        Some((at, self.stand_ins.sound(at)?))
     }
 
     /// Adds an earlier frame to the unit for the last bad place, and says how many bytes it has.
@@ -179,8 +215,9 @@ impl Fix {
             return 0;
         };
         let bytes = self.stand_ins.take(at);
-        self.unit.add(sound, bytes);
-        self.unit.repeated.push(self.bad.count - 1);
+        self.now.add(sound, bytes);
+        self.now.unit.is_broken = true;
+        self.now.repeated.push(self.bad.count - 1);
         bytes.len()
     }
 
@@ -188,7 +225,7 @@ impl Fix {
     fn done(&self, stand_ins: u64) -> String {
         match (self.instead, stand_ins) {
             (Instead::Nothing, _) => "left out".to_string(),
-            (Instead::LastGood, 0) => "left out, since no frame fits in its place".to_string(),
+            (Instead::LastGood, 0) => "left out, and nothing stands in".to_string(),
             (Instead::LastGood, 1) => "an earlier frame stands in".to_string(),
             (Instead::LastGood, many) => {
                 format!(
@@ -236,33 +273,30 @@ impl Way for Fix {
         false
     }
 
+    /// A change of format stays as it is, and is no good output either.
     fn outcome(&self) -> Outcome {
-        match self.bad.count {
+        match self.bad.count + self.changes {
             0 => Outcome::Good,
             _ => Outcome::Damage,
         }
     }
 
+    fn why_not(&self) -> &'static str {
+        match self.incomplete {
+            0 => "no good frame is there",
+            _ => "no unit of it has all its frames",
+        }
+    }
+
     fn lines(&self, done: &Done) -> Vec<String> {
-        if self.bad.count == 0 {
-            return vec!["Nothing was bad.".to_string()];
-        }
-        let was = if self.bad.count == 1 { "was" } else { "were" };
-        let places = counted(self.bad.count, "place", "places");
-        let mut lines = vec![format!("{places} {was} bad:")];
-        lines.extend(
-            self.bad
-                .lines(|bad, stand_ins| format!("{bad}: {}", self.done(stand_ins))),
-        );
-        if self.incomplete > 0 {
-            let frames = counted(self.incomplete, "good frame", "good frames");
-            lines.push(format!(
-                "{frames} beside them left out too: other substreams of the same time are lost."
-            ));
-        }
-        if self.instead == Instead::Nothing && done.fate != Fate::Left {
-            let words = "What follows a place comes earlier by what is left out; --bad repeat keeps the time.";
-            lines.push(words.to_string());
+        let mut lines = self.bad_lines(done);
+        if self.changes > 0 {
+            let changes = counted(
+                self.changes,
+                "change of format stays",
+                "changes of format stay",
+            );
+            lines.push(format!("{changes}: 'zela check' tells where."));
         }
         lines
     }
@@ -274,11 +308,36 @@ impl Way for Fix {
         Bad::add_first(record, self.bad.first());
         record.add("bad_places", Value::Number(self.bad.count));
         record.add("incomplete_frames", Value::Number(self.incomplete));
+        record.add("format_changes", Value::Number(self.changes));
         let places = self.bad.records(|bad, stand_ins| {
             let mut record = bad.record();
             record.add("stand_ins", Value::Number(stand_ins));
             record
         });
         record.add("places", places);
+    }
+}
+
+impl Fix {
+    /// The bad places, and what was done there.
+    fn bad_lines(&self, done: &Done) -> Vec<String> {
+        if self.bad.count == 0 {
+            return vec!["No frame was bad, and no byte was in none.".to_string()];
+        }
+        let was = if self.bad.count == 1 { "was" } else { "were" };
+        let places = counted(self.bad.count, "place", "places");
+        let mut lines = vec![format!("{places} {was} bad:")];
+        let told = |bad: &Bad, stand_ins| format!("{bad}: {}", self.done(stand_ins));
+        lines.extend(self.bad.lines(told));
+        if self.incomplete > 0 {
+            let frames = counted(self.incomplete, "good frame", "good frames");
+            lines.push(format!(
+                "{frames} beside them left out too: other substreams of the same time are lost."
+            ));
+        }
+        if self.instead == Instead::Nothing && done.fate != Fate::Left {
+            lines.push(EARLIER.to_string());
+        }
+        lines
     }
 }

@@ -1,63 +1,29 @@
 //! The format of a stream, and where it changes.
 //!
-//! A unit is a frame of independent substream 0, AC-3 or E-AC-3, with the frames of other substreams up to the
-//! next such one. Units are compared with each other, so that a substream that comes or goes is a change too.
-//! A unit beside damage may lack a frame, and is not compared.
+//! Units are compared with each other, so that a substream that comes or goes is a change too. A unit beside damage
+//! may lack a frame: of it only the substreams that are there are compared.
 
 use crate::clock::Time;
 use crate::frames::Frame;
 use crate::sound::{Format, Sound, Substream};
 use crate::trouble::{Bad, Place, Trouble};
+use crate::units::Unit;
 
 /// How many bytes one frame of a constant bit rate may be longer than another, where the rate is no whole
 /// number of words a frame (TS 4.4.1.4: at 44.1 kHz a word more).
 const WORD: u64 = 2;
 
-/// The unit that is being read.
-#[derive(Default)]
-struct Unit {
-    place: Place,
-    formats: Vec<Format>,
-    bytes: u64,
-    time: Time,
-    is_broken: bool,
-}
-
-impl Unit {
-    fn begin(&mut self, place: Place, is_broken: bool) {
-        self.place = place;
-        self.formats.clear();
-        self.bytes = 0;
-        self.time = Time::default();
-        self.is_broken = is_broken;
-    }
-}
-
-/// Whether a frame begins another unit than the one of these frames.
-pub fn begins_unit(unit: &[Format], next: &Format) -> bool {
-    next.substream.is_first() || has(unit, next.substream)
-}
-
-/// Whether the substream is there, behind the last independent one where it depends on one.
-fn has(unit: &[Format], substream: Substream) -> bool {
-    let is_parent = |format: &Format| matches!(format.substream, Substream::Independent(_));
-    let own = match substream {
-        Substream::Independent(_) => 0,
-        _ => unit.iter().rposition(is_parent).unwrap_or(0),
-    };
-    let own = unit.get(own..).unwrap_or_default();
-    own.iter().any(|format| format.substream == substream)
-}
-
 /// What is known of a stream's format.
 #[derive(Default)]
 pub struct Formats {
     unit: Unit,
-    /// Whether damage stands behind the last good frame.
-    is_interrupted: bool,
-    /// Those of the last whole unit.
-    known: Vec<Format>,
-    /// That of the first frame, where there is no whole unit.
+    /// Where the unit begins, its bytes and its time.
+    place: Place,
+    bytes: u64,
+    time: Time,
+    /// The unit that the next one is compared with. It is broken as long as no whole one has come.
+    known: Unit,
+    /// The format of the first frame, where there is no good one.
     first: Option<Format>,
     layout_varies: bool,
     rate_varies: bool,
@@ -74,67 +40,99 @@ impl Formats {
             self.interrupt();
             return None;
         };
-        self.first.get_or_insert(format);
         let mut change = None;
-        let is_interrupted = std::mem::take(&mut self.is_interrupted);
-        if self.unit.formats.is_empty() || begins_unit(&self.unit.formats, &format) {
+        if self.unit.formats.is_empty() || self.unit.is_before(&format) {
             change = self.complete();
-            // Where a unit begins with another substream, its first frame may be among what is lost.
-            let is_broken = is_interrupted && !format.substream.is_first();
-            self.unit.begin(place, is_broken);
+            self.unit.begin(&format);
+            (self.place, self.bytes, self.time) = (place, 0, Time::default());
         }
-        self.unit.formats.push(format);
-        self.unit.bytes += frame.bytes.len() as u64;
-        self.unit.time += frame.sound.map(|sound| sound.time()).unwrap_or_default();
+        self.unit.push(format);
+        self.bytes += frame.bytes.len() as u64;
+        self.time += frame.sound.map(|sound| sound.time()).unwrap_or_default();
         change
     }
 
     /// Damage stands here.
     pub fn interrupt(&mut self) {
-        self.unit.is_broken = true;
-        self.is_interrupted = true;
+        self.unit.interrupt();
     }
 
     /// The unit is complete.
     pub fn complete(&mut self) -> Option<Bad> {
-        if self.unit.is_broken || self.unit.formats.is_empty() {
+        if self.unit.formats.is_empty() {
             return None;
         }
-        self.compare_pace();
-        if self.unit.formats == self.known {
+        if !self.unit.is_broken {
+            self.compare_pace();
+            if self.unit.formats == self.known.formats && !self.known.is_broken {
+                return None;
+            }
+        }
+        let now = self.merged();
+        let was = std::mem::replace(&mut self.known, now);
+        if was.formats.is_empty() || !self.is_changed(&was) {
             return None;
         }
-        let was = std::mem::replace(&mut self.known, self.unit.formats.clone());
-        if was.is_empty() {
-            return None;
-        }
-        self.layout_varies |= layout(&was) != layout(&self.known);
-        self.rate_varies |= rate(&was) != rate(&self.known);
-        let (was, is) = (words(&was).into(), words(&self.known).into());
+        self.layout_varies |= layout(&was.formats) != layout(&self.known.formats);
+        self.rate_varies |= rate(&was.formats) != rate(&self.known.formats);
+        let (was, is) = (
+            words(&was.formats).into(),
+            words(&self.known.formats).into(),
+        );
         let trouble = Trouble::Changed { was, is };
-        Some(Bad::new(self.unit.place, 0, trouble))
+        Some(Bad::new(self.place, 0, trouble))
+    }
+
+    /// What is known once the unit is, too. Of a broken one, the frames take the places of those of their substreams.
+    fn merged(&self) -> Unit {
+        if !self.unit.is_broken {
+            return self.unit.clone();
+        }
+        let mut known = self.known.keys();
+        for (key, format) in self.unit.keys() {
+            match known.iter_mut().find(|(own, _)| *own == key) {
+                Some((_, own)) => *own = format,
+                // Before a whole unit has come, any substream may be one of it.
+                None if self.known.formats.is_empty() || self.known.is_broken => {
+                    known.push((key, format));
+                }
+                None => {}
+            }
+        }
+        let formats = known.into_iter().map(|(_, format)| format).collect();
+        Unit::of(
+            formats,
+            self.known.formats.is_empty() || self.known.is_broken,
+        )
+    }
+
+    /// Whether what is known now is another format than before: of two whole units by all their substreams, else by
+    /// those that both have.
+    fn is_changed(&self, was: &Unit) -> bool {
+        if !was.is_broken && !self.known.is_broken {
+            return was.formats != self.known.formats;
+        }
+        let now = self.known.keys();
+        let is_other = |(key, format)| {
+            now.iter()
+                .any(|(own, other)| *own == key && *other != format)
+        };
+        was.keys().into_iter().any(is_other)
     }
 
     fn compare_pace(&mut self) {
-        let unit = (
-            self.unit.bytes,
-            self.unit.formats.len() as u64,
-            self.unit.time,
-        );
+        let unit = (self.bytes, self.unit.formats.len() as u64, self.time);
         let (bytes, frames, time) = *self.pace.get_or_insert(unit);
-        let (ours, theirs) = (
-            self.unit.time.parts_of(bytes),
-            time.parts_of(self.unit.bytes),
-        );
-        let longer = time.max(self.unit.time);
+        let (ours, theirs) = (self.time.parts_of(bytes), time.parts_of(self.bytes));
+        let longer = time.max(self.time);
         let padding = longer.parts_of(WORD * frames.max(unit.1));
         self.pace_varies |= ours.abs_diff(theirs) > padding;
     }
 
     fn shown(&self) -> Vec<Format> {
-        match self.known.is_empty() {
+        match self.known.formats.is_empty() {
             true => self.first.into_iter().collect(),
-            false => self.known.clone(),
+            false => self.known.formats.clone(),
         }
     }
 

@@ -35,7 +35,7 @@ usage: zela COMMAND [OPTIONS] FILE..
 
 Reads AC-3 and E-AC-3 (ETSI TS 102 366) with the proved core of Zelamodurk.
 
-  check    is it whole? tells every bad place of each file
+  check    are its frames whole? tells every bad place of each file
   fix      for damage: leaves bad frames out, or repeats the last good one
   reseal   for your own edits: new checksums over the bytes as they are
   bits     shows some bits of a file
@@ -100,11 +100,12 @@ bytes in no frame are left out, and each such place is told.
   -q, --quiet          no report and no progress bar: the status tells
   -h, --help           this text
 
-OUT takes its place when all is written, and a file that was there stays as it
-was where that fails. An OUT that is - is standard output.
+OUT takes its place when all is written. A file that was there is replaced, and
+stays as it was where that fails. An OUT that is - is standard output.
 
-Status: 0 nothing was bad; 1 something was, and OUT is without it; 2 bad usage;
-3 input or output failed; 4 no AC-3 there.
+Status: 0 nothing was bad; 1 something was, and OUT is without it, or the
+format changes inside IN; 2 bad usage; 3 input or output failed; 4 no AC-3
+there, or no good frame of it, and nothing is written.
 ";
 
 const RESEAL: &str = "\
@@ -128,11 +129,11 @@ not edited, a reseal hides that for good: zela fix is for damage.
   -q, --quiet          no report and no progress bar: the status tells
   -h, --help           this text
 
-OUT takes its place when all is written, and a file that was there stays as it
-was where that fails. An OUT that is - is standard output.
+OUT takes its place when all is written. A file that was there is replaced, and
+stays as it was where that fails. An OUT that is - is standard output.
 
 Status: 0 all is resealed, or nothing was to; 1 something was left out; 2 bad
-usage; 3 input or output failed; 4 no AC-3 there.
+usage; 3 input or output failed; 4 no AC-3 there, and nothing is written.
 ";
 
 const BITS: &str = "\

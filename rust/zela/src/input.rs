@@ -5,9 +5,8 @@ use crate::progress::Progress;
 use crate::standard::standard;
 use std::ffi::OsStr;
 use std::fs::File;
-use std::io::{self, ErrorKind, IsTerminal, Read, Seek, SeekFrom};
+use std::io::{self, IsTerminal, Read, Seek, SeekFrom};
 use std::path::Path;
-use std::sync::atomic::{AtomicBool, Ordering};
 
 /// An open input.
 pub struct Input {
@@ -46,13 +45,10 @@ impl Input {
         self.size
     }
 
-    /// Shows how far it is read, and reads no more once it is told to stop.
-    pub fn watched<'a>(self, progress: &'a Progress, stop: &'a AtomicBool) -> Watched<'a> {
-        Watched {
-            input: self,
-            progress,
-            stop,
-        }
+    /// Shows how far it is read.
+    pub fn watched(self, progress: &Progress) -> Watched<'_> {
+        let input = self;
+        Watched { input, progress }
     }
 
     /// Passes over so many bytes, or all that there are, and says how many.
@@ -74,14 +70,10 @@ impl Read for Input {
 pub struct Watched<'a> {
     input: Input,
     progress: &'a Progress,
-    stop: &'a AtomicBool,
 }
 
 impl Read for Watched<'_> {
     fn read(&mut self, room: &mut [u8]) -> io::Result<usize> {
-        if self.stop.load(Ordering::Relaxed) {
-            return Err(ErrorKind::Other.into());
-        }
         let more = self.input.read(room)?;
         self.progress.add(more as u64);
         Ok(more)

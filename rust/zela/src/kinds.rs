@@ -60,9 +60,9 @@ const COPY_HIGH: &str = "dd conv=swab if=FILE | \
 /// ffmpeg's reader of bursts refuses E-AC-3. Its reader of E-AC-3 finds the frames, and eac3_core takes away
 /// what stands between them, but dependent substreams too.
 const COPY_HIGH_EAC3: &str = "ffmpeg -f eac3 -i FILE \
-    -map 0:a:0 -c copy -bsf:a eac3_core -f data OUT.ac3 (leaves dependent substreams out)";
+    -map 0:a:0 -c copy -bsf:a eac3_core -f data OUT.ac3 # leaves dependent substreams out";
 const COPY_LOW_EAC3: &str = "dd conv=swab if=FILE | ffmpeg -f eac3 -i - \
-    -map 0:a:0 -c copy -bsf:a eac3_core -f data OUT.ac3 (leaves dependent substreams out)";
+    -map 0:a:0 -c copy -bsf:a eac3_core -f data OUT.ac3 # leaves dependent substreams out";
 const SWAP: &str = "dd conv=swab if=FILE of=OUT.ac3";
 
 const KINDS: &[Kind] = &[
@@ -100,6 +100,12 @@ const KINDS: &[Kind] = &[
         name: "a Matroska or WebM file",
         is_sure: true,
         fits: |first| first.starts_with(&[0x1A, 0x45, 0xDF, 0xA3]),
+        command: Some(COPY),
+    },
+    Kind {
+        name: "an AVI file",
+        is_sure: true,
+        fits: |first| first.starts_with(b"RIFF") && first.get(8..12) == Some(b"AVI "),
         command: Some(COPY),
     },
     Kind {
@@ -342,6 +348,7 @@ mod tests {
         (file!("segment_0"), SEGMENT),
         (file!("matroska"), MATROSKA),
         (file!("webm"), MATROSKA),
+        (file!("avi"), "an AVI file"),
         (file!("ps_mpeg1"), PROGRAM),
         (file!("ps_mpeg2"), PROGRAM),
         (file!("mxf"), MXF),
@@ -471,7 +478,7 @@ mod tests {
     #[test]
     fn a_form_of_another_name_is_no_wav_file() {
         let mut first = file!("wav_pcm").to_vec();
-        first[8..12].copy_from_slice(b"AVI ");
+        first[8..12].copy_from_slice(b"CDDA");
         assert_eq!(name(&first), None);
     }
 

@@ -84,7 +84,8 @@ impl Listing {
                         self.fail(path.as_os_str(), Failure::io(spoken(path.as_os_str()), &e))
                     }
                 },
-                false if path.is_file() => self.take(path),
+                // A link that leads nowhere is told where it is read.
+                false if path.is_file() || !path.exists() => self.take(path),
                 false => self.passed_over += 1,
             }
         }

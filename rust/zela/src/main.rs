@@ -31,6 +31,7 @@ mod summary;
 mod table;
 mod terminal;
 mod trouble;
+mod units;
 mod window;
 mod words;
 

@@ -38,6 +38,8 @@ struct Draft {
     at: PathBuf,
     place: PathBuf,
     is_placed: bool,
+    /// Whether a file was there before.
+    replaces: bool,
 }
 
 impl Draft {
@@ -76,6 +78,11 @@ impl Output {
     /// Whether what is written can't be taken back, and is read by others as it comes.
     pub fn is_stream(&self) -> bool {
         !matches!(self.kind, Kind::Draft(_))
+    }
+
+    /// Whether it takes the place of a file that was there.
+    pub fn replaces(&self) -> bool {
+        matches!(&self.kind, Kind::Draft(draft) if draft.replaces)
     }
 
     fn over(file: File, kind: Kind, to: &OsStr) -> Output {
@@ -155,6 +162,7 @@ fn draft(to: &OsStr, place: PathBuf, permissions: Option<Permissions>) -> io::Re
         at,
         place,
         is_placed: false,
+        replaces: permissions.is_some(),
     };
     if let Some(permissions) = permissions {
         file.set_permissions(permissions)?;

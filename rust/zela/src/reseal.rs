@@ -98,7 +98,7 @@ impl Way for Reseal {
         let bytes = counted(self.left_out.bytes, "byte", "bytes");
         let places = counted(self.left_out.count, "place", "places");
         let result = match done.fate {
-            Fate::Written => "Left out",
+            Fate::Written | Fate::Replaced => "Left out",
             Fate::Tried => "Would be left out",
             Fate::Left => "Would be lost",
         };
@@ -139,7 +139,7 @@ fn sealed_lines(resealed: &Places, done: &Done) -> Vec<String> {
         many => (counted(many, "frame", "frames"), "have"),
     };
     let result = match done.fate {
-        Fate::Written => format!("and {has} new ones now"),
+        Fate::Written | Fate::Replaced => format!("and {has} new ones now"),
         Fate::Tried => "and would get new ones".to_string(),
         Fate::Left => format!("and {has} them still"),
     };
@@ -147,7 +147,7 @@ fn sealed_lines(resealed: &Places, done: &Done) -> Vec<String> {
     lines.extend(resealed.lines(told));
     let out = output::spoken(&done.out);
     let shows = match done.fate {
-        Fate::Written => "shows it any more",
+        Fate::Written | Fate::Replaced => "shows it any more",
         Fate::Tried => "would show it any more",
         Fate::Left => return lines,
     };

@@ -10,13 +10,14 @@ use crate::outcome::{name, print, print_aside, said, Failure, Outcome};
 use crate::output::{self, Output};
 use crate::progress::Progress;
 use crate::report::{alone, Record, Value};
-use crate::same::are_same;
+use crate::same::{are_same, is_standard_output};
 use crate::summary::kind_of;
 use crate::table::without_ac3;
 use crate::trouble::{Bad, Place};
 use crate::words::{counted, grouped};
 use std::ffi::{OsStr, OsString};
 use std::fs;
+use std::io::{self, IsTerminal};
 
 /// Where frames go.
 pub type Put<'a> = dyn FnMut(&[u8]) -> Result<(), Failure> + 'a;
@@ -35,6 +36,10 @@ pub trait Way: Clone {
     fn in_place(&self) -> &'static str {
         ""
     }
+    /// Why nothing is written, where there is nothing to write.
+    fn why_not(&self) -> &'static str {
+        "no good frame is there"
+    }
     /// Whether a file itself is to be replaced by what was written.
     fn is_worth_it(&self) -> bool;
     fn outcome(&self) -> Outcome;
@@ -48,10 +53,18 @@ pub trait Way: Clone {
 #[derive(Clone, Copy, PartialEq, Eq)]
 pub enum Fate {
     Written,
+    /// It is written, and a file that was there is gone.
+    Replaced,
     /// It would be written, were this no trial.
     Tried,
     /// The old file, or none, is there.
     Left,
+}
+
+impl Fate {
+    pub fn is_written(self) -> bool {
+        matches!(self, Fate::Written | Fate::Replaced)
+    }
 }
 
 /// What a run did.
@@ -69,9 +82,9 @@ pub fn run(asked: &Rewrite, mut way: impl Way) -> Result<Outcome, Failure> {
         None => (in_place(asked, &mut way)?, false),
     };
     let done = Done {
+        fate,
         file: asked.from.clone(),
         out: asked.to.clone().unwrap_or_else(|| asked.from.clone()),
-        fate,
     };
     let text = report(&way, &done, asked);
     // Where the frames go to a stream, the report goes to standard error, so that it never is in it.
@@ -80,7 +93,11 @@ pub fn run(asked: &Rewrite, mut way: impl Way) -> Result<Outcome, Failure> {
         (false, true) => print_aside(&text)?,
         (false, false) => print(&text)?,
     }
-    Ok(way.outcome())
+    Ok(match (fate, &asked.to) {
+        // A script must not take an old file for what was written.
+        (Fate::Left, Some(_)) => Outcome::NoAc3,
+        _ => way.outcome(),
+    })
 }
 
 /// Writes to another file; it is left as it is where there is no frame to write.
@@ -88,6 +105,10 @@ fn to_another(asked: &Rewrite, to: &OsStr, way: &mut impl Way) -> Result<(Fate, 
     if are_same(&asked.from, to) {
         let words = format!("IN and OUT are the same file{}", way.in_place());
         return Err(Failure::of(Outcome::Usage, output::spoken(to), words));
+    }
+    if is_standard_output(to) && io::stdout().is_terminal() && !asked.is_dry {
+        let words = "is the terminal, which shows no frames";
+        return Err(Failure::of(Outcome::Usage, "standard output", words));
     }
     let walk = Walk::begin(asked)?;
     if asked.is_dry {
@@ -105,8 +126,13 @@ fn to_another(asked: &Rewrite, to: &OsStr, way: &mut impl Way) -> Result<(Fate, 
     if way.frames() == 0 {
         return Ok((Fate::Left, is_stream));
     }
+    let fate = if output.replaces() {
+        Fate::Replaced
+    } else {
+        Fate::Written
+    };
     output.finish()?;
-    Ok((Fate::Written, is_stream))
+    Ok((fate, is_stream))
 }
 
 /// Replaces the file itself, where that is worth it. To know that it is read before anything is begun, so that
@@ -133,7 +159,7 @@ fn in_place(asked: &Rewrite, way: &mut impl Way) -> Result<Fate, Failure> {
         return Ok(Fate::Left);
     }
     output.finish()?;
-    Ok(Fate::Written)
+    Ok(Fate::Replaced)
 }
 
 /// An input that is open and may well be AC-3.
@@ -202,7 +228,7 @@ fn report(way: &impl Way, done: &Done, asked: &Rewrite) -> String {
         let mut record = Record::default();
         record.add("file", Value::Text(name(&done.file)));
         record.add("out", Value::Text(name(&done.out)));
-        record.add("written", Value::Flag(done.fate == Fate::Written));
+        record.add("written", Value::Flag(done.fate.is_written()));
         way.record(&mut record);
         return alone(&record, asked.shown.format);
     }
@@ -210,10 +236,9 @@ fn report(way: &impl Way, done: &Done, asked: &Rewrite) -> String {
     let out = output::spoken(&done.out);
     let first = match done.fate {
         Fate::Written => format!("{out}: written, {frames}"),
+        Fate::Replaced => format!("{out}: replaced, {frames}"),
         Fate::Tried => format!("{out}: would be written, {frames}"),
-        Fate::Left if asked.to.is_some() => {
-            format!("{out}: not written, since no good frame is there")
-        }
+        Fate::Left if asked.to.is_some() => format!("{out}: not written, since {}", way.why_not()),
         Fate::Left => format!("{out}: left as it is"),
     };
     let lines = [first].into_iter().chain(way.lines(done));

@@ -21,6 +21,10 @@ impl Substream {
     pub fn is_first(self) -> bool {
         self == Substream::Independent(0)
     }
+
+    pub fn is_independent(self) -> bool {
+        matches!(self, Substream::Independent(_))
+    }
 }
 
 /// What a listener meets: another one inside a file is a change of format.

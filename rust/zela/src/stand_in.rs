@@ -1,24 +1,28 @@
 //! Frames that stand in for lost ones, so that the time stays.
 //!
-//! The last good frame of each length and header is kept, with the one that followed it. A lost frame whose
-//! header is there gets the one that would have followed if that has its length, and else the one of the same
-//! length and header. Where no header is left, the frames that would have followed stand in, as many as come
-//! nearest to the bytes that are lost.
+//! The last good frame of each length and header is kept, with the one that followed it. A header that is there is
+//! that of one lost frame. What would have followed stands in for it if it has the same length, since the header may
+//! be damaged; else the frame of the same length and header; else the last one of the same substream. Where no
+//! header is left, the frames that would have followed stand in, as many as come nearest to the bytes that are lost.
 
 use crate::frames::Lost;
-use crate::sound::Sound;
+use crate::sound::{Sound, Substream};
 
 /// How many kinds of frames are kept. A stream has one, or two at 44.1 kHz, and as many more for each further
-/// substream; one whose bit rate varies may have any number, and then the last ones are kept.
+/// substream; of one whose bit rate varies, those are kept that came last.
 const KINDS: usize = 32;
 
 /// The last good frame of a length and header.
 #[derive(Clone)]
 struct Kept {
     sound: Sound,
+    /// The independent substream that it belongs to.
+    parent: Option<Substream>,
     bytes: Vec<u8>,
     /// The kind that followed it when it was last seen, by its number.
     next: Option<usize>,
+    /// The number of frames before it.
+    came: u64,
 }
 
 /// The frames that can stand in.
@@ -27,14 +31,14 @@ pub struct StandIns {
     kinds: Vec<Kept>,
     /// The kind of the last frame.
     last: Option<usize>,
-    /// The kind that gives way to a new one once there are too many.
-    oldest: usize,
+    /// How many good frames have come.
+    count: u64,
 }
 
 /// A place that is being filled.
 pub struct Filling {
-    /// The kind of the frame whose header is there.
-    first: Option<usize>,
+    /// The kind that stands in for the frame whose header is there, and how many bytes that frame had.
+    first: Option<(usize, u64)>,
     /// How many bytes are left to count.
     left: u64,
 }
@@ -42,39 +46,73 @@ pub struct Filling {
 impl StandIns {
     /// A good frame has come.
     pub fn keep(&mut self, sound: Sound, bytes: &[u8]) {
-        let at = self.place_of(sound, bytes);
+        self.count += 1;
+        let at = self.place_for(sound, bytes.len());
+        let kept = Kept {
+            sound,
+            parent: self.parent_of(sound),
+            bytes: bytes.to_vec(),
+            next: self.kinds.get(at).and_then(|kept| kept.next),
+            came: self.count,
+        };
+        match self.kinds.get_mut(at) {
+            Some(old) => *old = kept,
+            None => self.kinds.push(kept),
+        }
         if let Some(before) = self.last.and_then(|last| self.kinds.get_mut(last)) {
             before.next = Some(at);
         }
         self.last = Some(at);
     }
 
-    /// Where the frame is kept now.
-    fn place_of(&mut self, sound: Sound, bytes: &[u8]) -> usize {
-        if let Some(at) = self.like(sound, bytes.len()) {
-            self.kinds[at].bytes.copy_from_slice(bytes);
+    /// Where a frame is to be kept: with its like, else as a new kind, for which the one that came first gives way.
+    fn place_for(&mut self, sound: Sound, length: usize) -> usize {
+        if let Some(at) = self.like(sound, length) {
             return at;
         }
-        let is_full = self.kinds.len() == KINDS;
-        let at = if is_full {
-            self.oldest
-        } else {
-            self.kinds.len()
-        };
-        let (bytes, next) = (bytes.to_vec(), None);
-        let kept = Kept { sound, bytes, next };
-        match self.kinds.get_mut(at) {
-            Some(old) => *old = kept,
-            None => self.kinds.push(kept),
+        if self.kinds.len() < KINDS {
+            return self.kinds.len();
         }
-        self.oldest = (self.oldest + usize::from(is_full)) % KINDS;
-        at
+        let oldest = (0..KINDS).min_by_key(|at| self.kinds[*at].came);
+        let oldest = oldest.unwrap_or_default();
+        self.kinds[oldest].next = None;
+        let followed = self
+            .kinds
+            .iter_mut()
+            .filter(|kept| kept.next == Some(oldest));
+        followed.for_each(|kept| kept.next = None);
+        self.last = self.last.filter(|last| *last != oldest);
+        oldest
     }
 
-    /// The kind of the same length and header.
+    /// The kind of the same length and header, of the same independent substream.
     fn like(&self, sound: Sound, length: usize) -> Option<usize> {
-        let mut kinds = self.kinds.iter();
-        kinds.position(|kept| kept.sound == sound && kept.bytes.len() == length)
+        let (own, mut kinds) = (self.parent_of(sound), self.kinds.iter());
+        let is_like = |kept: &Kept| kept.sound == sound && kept.bytes.len() == length;
+        kinds.position(|kept| is_like(kept) && kept.parent == own)
+    }
+
+    /// The independent substream that the next frame belongs to.
+    fn parent_of(&self, next: Sound) -> Option<Substream> {
+        let substream = next.format.substream;
+        match substream.is_independent() {
+            true => Some(substream),
+            false => self.kinds.get(self.last?)?.parent,
+        }
+    }
+
+    /// The last kind of the same codec and substream.
+    fn of_substream(&self, sound: Sound) -> Option<usize> {
+        let is_one = |kept: &Kept| {
+            let (own, other) = (kept.sound.format, sound.format);
+            own.codec == other.codec && own.substream == other.substream
+        };
+        let kinds = self
+            .kinds
+            .iter()
+            .enumerate()
+            .filter(|(_, kept)| is_one(kept));
+        kinds.max_by_key(|(_, kept)| kept.came).map(|(at, _)| at)
     }
 
     /// The kind that would follow, where one did before.
@@ -92,39 +130,46 @@ impl StandIns {
         self.kinds.get(kind).map(|kept| kept.sound)
     }
 
-    /// A place of so many lost bytes that is to be filled; it may begin with a header that is known.
+    /// A place of so many lost bytes that is to be filled; it may begin with a header.
     pub fn filling(&self, lost: Option<Lost>, bytes: u64) -> Filling {
-        let Some(lost) = lost else {
-            let first = None;
-            return Filling { first, left: bytes };
+        let first = lost.and_then(|lost| self.instead_of(lost));
+        let left = match (first, lost) {
+            (None, Some(lost)) if self.is_other(lost) => 0,
+            _ => bytes,
         };
+        let first = first.zip(lost.map(|lost| lost.bytes as u64));
+        Filling { first, left }
+    }
+
+    /// The kind that stands in for a frame whose header is there.
+    fn instead_of(&self, lost: Lost) -> Option<usize> {
         let has_length = |at: &usize| {
             self.kinds
                 .get(*at)
                 .is_some_and(|kept| kept.bytes.len() == lost.bytes)
         };
         let successor = self.successor().filter(has_length);
-        let first = successor.or_else(|| self.like(lost.sound, lost.bytes));
-        // For a frame of another substream than the one that would follow, nothing else stands in.
-        let follower = self.follower().and_then(|at| self.sound(at));
-        let is_other =
-            follower.is_some_and(|sound| sound.format.substream != lost.sound.format.substream);
-        let left = if first.is_none() && is_other {
-            0
-        } else {
-            bytes
-        };
-        Filling { first, left }
+        let like = || self.like(lost.sound, lost.bytes);
+        successor
+            .or_else(like)
+            .or_else(|| self.of_substream(lost.sound))
+    }
+
+    /// Whether a header is of another substream than all that have come, and of their codec: then it is likely right,
+    /// and nothing fits. A header of another codec is likely damaged.
+    fn is_other(&self, lost: Lost) -> bool {
+        let mut kinds = self.kinds.iter();
+        kinds.any(|kept| kept.sound.format.codec == lost.sound.format.codec)
     }
 
     /// The kind that stands in there next, if there is one more.
     pub fn candidate(&self, filling: &Filling) -> Option<usize> {
-        // A frame whose header is there is lost, however little of it is left.
-        filling.first.or_else(|| {
-            let at = self.follower()?;
-            let length = self.kinds.get(at)?.bytes.len() as u64;
-            (filling.left >= length.div_ceil(2)).then_some(at)
-        })
+        if let Some((first, _)) = filling.first {
+            return Some(first);
+        }
+        let at = self.follower()?;
+        let length = self.kinds.get(at)?.bytes.len() as u64;
+        (filling.left >= length.div_ceil(2)).then_some(at)
     }
 
     /// The kind that would complete a unit, for which `begins` says whether a frame begins another one.
@@ -141,10 +186,10 @@ impl StandIns {
 }
 
 impl Filling {
-    /// A frame of so many bytes stands in.
+    /// A frame of so many bytes stands in. The lost one had as many as its header says, if it has one.
     pub fn add(&mut self, bytes: usize) {
-        self.first = None;
-        self.left = self.left.saturating_sub(bytes as u64);
+        let own = self.first.take().map_or(0, |(_, bytes)| bytes);
+        self.left = self.left.saturating_sub(own.max(bytes as u64));
     }
 }
 

@@ -41,11 +41,22 @@ pub enum State {
     Unread,
 }
 
+impl State {
+    pub fn word(self) -> &'static str {
+        match self {
+            State::Good => "good",
+            State::Bad => "bad",
+            State::Wrong => "wrong",
+            State::Unread => "error",
+        }
+    }
+}
+
 /// What a file holds.
 #[derive(Default)]
 pub struct Summary {
     pub file: OsString,
-    /// None where it was not read to its end.
+    /// Of the whole file; none where that is not known.
     pub bytes: Option<u64>,
     pub ac3: u64,
     pub eac3: u64,

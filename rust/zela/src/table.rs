@@ -54,13 +54,25 @@ impl Table {
         }
     }
 
+    /// Further places are not told before the row.
+    pub fn enough() -> String {
+        format!("{INDENT}further places are counted, and told with --all alone\n")
+    }
+
     /// A file's row, with what there is to say of it. Its places are left out where they were told before.
     pub fn file(&mut self, summary: &Summary, places_are_told: bool) -> String {
         let before: usize = COLUMNS.iter().map(|(_, width, _)| width + 2).sum();
         let mut cells = cells(summary);
-        cells.push(self.shown(&name(&summary.file), before - 2));
+        let name = printable(&name(&summary.file));
+        let shown = self.shown(&name, before - 2);
+        // Of a file that is not good the whole name must be known.
+        let whole = match shown == name || summary.state() == State::Good {
+            true => String::new(),
+            false => format!("{INDENT}{name}\n"),
+        };
+        cells.push(shown);
         let row = self.coloured(&row(&COLUMNS, &cells), summary.state());
-        self.begin() + &row + &notes(summary, places_are_told)
+        self.begin() + &row + &whole + &notes(summary, places_are_told)
     }
 
     /// A row with its first word in colour, where colours are shown.
@@ -76,25 +88,15 @@ impl Table {
 
     /// A name, cut where a terminal has no room for it behind so many columns.
     fn shown(&self, name: &str, before: usize) -> String {
-        let name = printable(name);
         match self.terminal {
-            Some(terminal) => cut(&name, terminal.columns.saturating_sub(before).max(NAME)),
-            None => name,
+            Some(terminal) => cut(name, terminal.columns.saturating_sub(before).max(NAME)),
+            None => name.to_string(),
         }
     }
 }
 
 fn line(bad: &Bad) -> String {
     format!("{INDENT}{bad}\n")
-}
-
-fn word(state: State) -> &'static str {
-    match state {
-        State::Good => "good",
-        State::Bad => "bad",
-        State::Wrong => "wrong",
-        State::Unread => "error",
-    }
 }
 
 /// Green, red, and yellow for what is no stream.
@@ -124,7 +126,7 @@ fn cells(summary: &Summary) -> Vec<String> {
     };
     let frames = Some(summary.frames()).filter(|frames| *frames > 0);
     vec![
-        word(summary.state()).to_string(),
+        summary.state().word().to_string(),
         codec.unwrap_or("-").to_string(),
         formats.layout().unwrap_or_else(none),
         rate.unwrap_or_else(none),
@@ -183,7 +185,7 @@ fn told(summary: &Summary, places_are_told: bool) -> Vec<String> {
         lines.push(format!("where: [{}]", summary.marks.line(bytes)));
     }
     if summary.is_early {
-        let words = "times count whole frames alone: behind lost bytes they are early";
+        let words = "times count whole frames alone: bytes in no frame take none";
         lines.push(words.to_string());
     }
     lines

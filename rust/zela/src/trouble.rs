@@ -76,7 +76,7 @@ impl fmt::Display for Trouble {
             Trouble::Checksum(status) => f.write_str(bad_sums(*status)),
             Trouble::Lone { status, .. } => {
                 let bad = bad_sums(*status);
-                write!(f, "{bad}, and no header stands where it would end")
+                write!(f, "{bad}, and no header stands where the frame would end")
             }
             Trouble::Changed { was, is } => write!(f, "the format changes from {was} to {is}"),
         }
@@ -152,7 +152,7 @@ impl Bad {
     }
 
     pub fn is_change(&self) -> bool {
-        self.trouble.what() == "change"
+        matches!(self.trouble, Trouble::Changed { .. })
     }
 }
 
@@ -169,7 +169,7 @@ impl fmt::Display for Bad {
             grouped(offset),
             grouped(frame)
         )?;
-        if self.trouble.what() == "gap" {
+        if matches!(self.trouble, Trouble::Refused(_) | Trouble::Lone { .. }) {
             write!(f, "{} in no frame: ", counted(self.bytes, "byte", "bytes"))?;
         }
         if let Some(number) = self.trouble.number() {

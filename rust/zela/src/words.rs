@@ -45,9 +45,10 @@ pub fn nearest<'a>(word: &str, words: &[&'a str]) -> Option<&'a str> {
     if word.chars().count() > 2 * FAR_WORD {
         return None;
     }
-    let near = |known: &&str| steps(word, known) <= NEAR.min(known.len() / 2);
+    let word = word.to_lowercase();
+    let near = |known: &&str| steps(&word, known) <= NEAR.min(known.len() / 2);
     let found = words.iter().filter(|known| near(known));
-    found.min_by_key(|known| steps(word, known)).copied()
+    found.min_by_key(|known| steps(&word, known)).copied()
 }
 
 /// How many steps a word may be away.
@@ -81,6 +82,7 @@ mod tests {
         let words = ["check", "fix", "reseal", "bits", "help"];
         let near = |word| nearest(word, &words);
         assert_eq!(near("chek"), Some("check"));
+        assert_eq!(near("CHECK"), Some("check"));
         assert_eq!(near("cehck"), Some("check"));
         assert_eq!(near("reseel"), Some("reseal"));
         assert_eq!(near("bit"), Some("bits"));

@@ -118,6 +118,45 @@ fn a_damaged_frame_is_no_change() {
 }
 
 #[test]
+fn a_damaged_frame_of_two_programmes_is_no_change() {
+    let [dependent, second] = [of_substream(1, 0), of_substream(0, 1)];
+    let unit = [&EAC3[..256], &dependent, &second, &dependent].concat();
+    let bytes = unit.repeat(4);
+    for at in 0..bytes.len() {
+        let mut damaged = bytes.clone();
+        damaged[at] ^= 0x10;
+        assert_eq!(changes(&damaged), [], "byte {at}");
+        // Nor is a loss of a hundred bytes.
+        let mut cut = bytes.clone();
+        cut.drain(at..bytes.len().min(at + 100));
+        let whole_frames_are_lost = at % 256 == 0 && at + 100 >= bytes.len();
+        assert!(
+            whole_frames_are_lost || changes(&cut).is_empty(),
+            "cut at {at}"
+        );
+    }
+}
+
+#[test]
+fn a_change_between_damaged_frames_is_told() {
+    // Every second frame is bad from the start of the second stream on.
+    let mut bytes = [MONO, EAC3].concat();
+    for frame in (0..13).step_by(2) {
+        bytes[MONO.len() + frame * 256 + 100] ^= 1;
+    }
+    let (formats, changes) = followed(&bytes);
+    assert_eq!(changes.len(), 1);
+    assert_eq!(changes[0].0, 3328 + 256);
+    assert_eq!(formats.layout().as_deref(), Some("1/0"));
+    // So it is where every frame but one in two is bad from the start.
+    let mut bytes = [MONO, STEREO].concat();
+    (0..13)
+        .step_by(2)
+        .for_each(|frame| bytes[frame * 256 + 100] ^= 1);
+    assert_eq!(self::changes(&bytes), [3328]);
+}
+
+#[test]
 fn a_change_beside_damage_is_told_once_it_is_sure() {
     let bytes = [&MONO[..768], &MONO[..100], STEREO].concat();
     assert_eq!(changes(&bytes), [868]);
@@ -149,7 +188,7 @@ fn a_stream_without_end_of_substreams_takes_no_room() {
         (0..8).for_each(|id| unit.extend(of_substream(1, id)));
     }
     let (formats, _) = followed(&unit.repeat(20));
-    assert!(formats.unit.formats.len() <= 72);
+    assert!(formats.unit.formats.len() <= 72 && formats.known.formats.len() <= 72);
 }
 
 #[test]

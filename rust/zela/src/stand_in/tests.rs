@@ -83,13 +83,28 @@ fn without_a_header_the_bytes_are_counted() {
 }
 
 #[test]
-fn a_header_that_was_never_seen_is_none() {
+fn a_header_of_another_length_is_one_frame_of_its_substream() {
     let mut stand_ins = kept(&[frame(0, 100, 1)]);
-    let long = lost(&frame(0, 300, 9));
-    assert_eq!(filled(&mut stand_ins, long, 100), [(100, 1)]);
-    // That of another substream is sure to be no such frame.
+    for length in [40, 300, 900] {
+        let other = frame(0, length, 9);
+        let bytes = length as u64;
+        assert_eq!(
+            filled(&mut stand_ins, lost(&other), bytes),
+            [(100, 1)],
+            "{length}"
+        );
+    }
+    // That of a substream that never came is sure to be no such frame.
     let dependent = lost(&frame(1, 100, 9));
     assert_eq!(filled(&mut stand_ins, dependent, 100), []);
+}
+
+#[test]
+fn a_header_of_another_codec_is_damaged() {
+    let mut stand_ins = kept(&[frame(0, 100, 1)]);
+    let sound = Sound::of(Codec::Ac3, &[0; 8]).unwrap();
+    let other = Some(Lost { sound, bytes: 128 });
+    assert_eq!(filled(&mut stand_ins, other, 100), [(100, 1)]);
 }
 
 #[test]
@@ -140,7 +155,10 @@ fn a_stream_of_many_lengths_takes_no_room() {
     let frames: Vec<Vec<u8>> = (0..500).map(|at| frame(0, 100 + 2 * at, 1)).collect();
     let mut stand_ins = kept(&frames);
     assert_eq!(stand_ins.kinds.len(), KINDS);
-    let (last, first) = (&frames[499], &frames[0]);
-    assert_eq!(filled(&mut stand_ins, lost(last), 1), [(1098, 1)]);
-    assert_eq!(stand_ins.like(sound(first), first.len()), None);
+    // Those are kept that came last.
+    for (at, frame) in frames.iter().enumerate() {
+        let is_kept = stand_ins.like(sound(frame), frame.len()).is_some();
+        assert_eq!(is_kept, at >= 500 - KINDS, "{at}");
+    }
+    assert_eq!(filled(&mut stand_ins, lost(&frames[499]), 1), [(1098, 1)]);
 }

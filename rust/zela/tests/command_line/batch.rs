@@ -158,6 +158,60 @@ fn a_batch_whose_reader_is_gone_ends() {
 }
 
 #[test]
+fn a_batch_whose_output_fails_waits_for_no_input() {
+    let room = Room::of("waits_for_no_input");
+    room.put("a.ac3", &ac3());
+    room.pipe("pipe");
+    // Nobody ever writes to the pipe.
+    for jobs in ["-j1", "-j2"] {
+        let words = ["check", jobs, "a.ac3", "pipe"];
+        room.run_into(gone(), &words).is(3, "", "");
+    }
+}
+
+#[test]
+fn a_link_that_leads_nowhere_is_told() {
+    let room = Room::of("leads_nowhere");
+    fs::create_dir(room.path("films")).unwrap();
+    room.put("films/a.ac3", &ac3());
+    symlink("gone.ac3", room.path("films/b.ac3")).unwrap();
+    symlink("gone.txt", room.path("films/c.txt")).unwrap();
+    let table = format!(
+        "{TITLES}{}error  -       -             -       -        -             -  films/b.ac3
+    error: No such file or directory
+
+2 files: 1 good, 0 bad, 1 not read; 1 other file passed over
+",
+        good("films/a.ac3")
+    );
+    let err = "zela: films/b.ac3: No such file or directory\n";
+    room.writes(&["check", "-r", "films"], 3, &table, err);
+}
+
+#[test]
+fn each_state_is_in_the_records() {
+    let room = Room::of("each_state");
+    room.put("good", &ac3());
+    room.put("bad", &ac3()[..1000]);
+    room.put("wrong", &noise(5000));
+    fs::create_dir(room.path("folder")).unwrap();
+    let words = [
+        "check", "--format", "jsonl", "-r", "good", "bad", "wrong", "error", "folder",
+    ];
+    let ran = room.run(&words);
+    let records: Vec<Json> = ran.out.lines().map(Json::of).collect();
+    for (record, state) in records
+        .iter()
+        .zip(["good", "bad", "wrong", "error", "wrong"])
+    {
+        assert_eq!(record.at("state"), &Json::Text(state.to_string()));
+    }
+    let kind = "no file in this folder ends in .ac3, .eac3, .ec3";
+    assert_eq!(records[4].at("kind"), &Json::Text(kind.to_string()));
+    assert_eq!(records[4].at("error"), &Json::Null);
+}
+
+#[test]
 fn the_first_ten_places_are_told_and_all_where_asked_for() {
     let room = Room::of("ten");
     let bytes = [
@@ -180,10 +234,12 @@ fn the_first_ten_places_are_told_and_all_where_asked_for() {
     let place = "    where: [...........................xxxxxxxxxxxxxxxxxxxxxxxxxxxxxxxxx]\n";
     let table = [TITLES, &row("x"), tally, &places(10), more, place].concat();
     room.writes(&["check", "x"], 1, &table, "");
+    let enough = "    further places are counted, and told with --all alone\n";
     let table = [
         TITLES,
         "standard input:\n",
         &places(10),
+        enough,
         &row("-"),
         tally,
         more,

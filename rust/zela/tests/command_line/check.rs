@@ -117,7 +117,7 @@ bad    E-AC-3  1/0          48      64       12  00:00:00.384  x
     1 bad place: 156 bytes in no frame at 1 place
     byte 0, frame 0, 00:00:00.000: 156 bytes in no frame: refusal 2, the first 16 bits aren't 0x0B77
     where: [xxx.........................................................]
-    times count whole frames alone: behind lost bytes they are early
+    times count whole frames alone: bytes in no frame take none
 ";
     checks("begins_inside", &eac3()[100..], 1, table);
 }
@@ -131,7 +131,7 @@ bad    AC-3    1/0          48      64       11  00:00:00.352  x
     1 bad place: 100 bytes in no frame at 1 place
     byte 512, frame 2, 00:00:00.064: refusal 1, the frame breaks off after 100 of 256 bytes, 156 short
     where: [..........xxx...............................................]
-    times count whole frames alone: behind lost bytes they are early
+    times count whole frames alone: bytes in no frame take none
 ";
     checks("spliced", &spliced, 1, table);
 }
@@ -145,7 +145,7 @@ bad    AC-3    1/0          48      64       13  00:00:00.416  x
     1 bad place: 1,000 bytes in no frame at 1 place
     byte 512, frame 2, 00:00:00.064: 1,000 bytes in no frame: refusal 2, the first 16 bits aren't 0x0B77
     where: [.......xxxxxxxxxxxxxx.......................................]
-    times count whole frames alone: behind lost bytes they are early
+    times count whole frames alone: bytes in no frame take none
 ";
     checks("noise_between", &bytes, 1, table);
 }
@@ -202,7 +202,7 @@ bad    E-AC-3  1/0          48      64       12  00:00:00.384  x
     1 bad place: 256 bytes in no frame at 1 place
     byte 1,024, frame 4, 00:00:00.128: 256 bytes in no frame: refusal 2, the first 16 bits aren't 0x0B77
     where: [..................xxxxxx....................................]
-    times count whole frames alone: behind lost bytes they are early
+    times count whole frames alone: bytes in no frame take none
 ";
     checks("a_broken_sync_word", &wrong(eac3(), 1024, 1), 1, table);
 }
@@ -215,7 +215,7 @@ bad    AC-3    1/0          48      64       12  00:00:00.384  x
     1 bad place: 256 bytes in no frame at 1 place
     byte 512, frame 2, 00:00:00.064: 256 bytes in no frame: refusal 4, AC-3 fscod 3, or frmsizecod above 37
     where: [.........xxxxx..............................................]
-    times count whole frames alone: behind lost bytes they are early
+    times count whole frames alone: bytes in no frame take none
 ";
     checks("a_reserved_rate", &wrong(ac3(), 512 + 4, 0xC0), 1, table);
 }
@@ -228,7 +228,7 @@ bad    AC-3    1/0          48      64       12  00:00:00.384  x
     1 bad place: 256 bytes in no frame at 1 place
     byte 512, frame 2, 00:00:00.064: 256 bytes in no frame: refusal 5, bsid 9, 10, or above 16
     where: [.........xxxxx..............................................]
-    times count whole frames alone: behind lost bytes they are early
+    times count whole frames alone: bytes in no frame take none
 ";
     checks("a_reserved_bsid", &wrong(ac3(), 512 + 5, 0x08), 1, table);
 }
@@ -242,7 +242,7 @@ bad    E-AC-3  1/0          48      64       12  00:00:00.384  x
     1 bad place: 256 bytes in no frame at 1 place
     byte 512, frame 2, 00:00:00.064: refusal 1, the frame breaks off after 256 of 768 bytes, 512 short
     where: [.........xxxxx..............................................]
-    times count whole frames alone: behind lost bytes they are early
+    times count whole frames alone: bytes in no frame take none
 ";
     checks("a_wrong_length", &wrong(eac3(), 512 + 2, 1), 1, table);
 }
@@ -254,9 +254,9 @@ fn a_bad_frame_before_a_broken_one() {
 state  codec   layout      kHz  kbit/s   frames        length  file
 bad    E-AC-3  1/0          48      64       11  00:00:00.352  x
     1 bad place: 512 bytes in no frame at 1 place
-    byte 256, frame 1, 00:00:00.032: 512 bytes in no frame: crc2 is bad, and no header stands where it would end
+    byte 256, frame 1, 00:00:00.032: 512 bytes in no frame: crc2 is bad, and no header stands where the frame would end
     where: [....xxxxxxxxxx..............................................]
-    times count whole frames alone: behind lost bytes they are early
+    times count whole frames alone: bytes in no frame take none
 ";
     checks("bad_before_broken", &bytes, 1, table);
 }
@@ -269,9 +269,9 @@ fn a_bad_frame_before_a_byte_too_many() {
 state  codec   layout      kHz  kbit/s   frames        length  file
 bad    E-AC-3  1/0          48      64       12  00:00:00.384  x
     1 bad place: 257 bytes in no frame at 1 place
-    byte 256, frame 1, 00:00:00.032: 257 bytes in no frame: crc2 is bad, and no header stands where it would end
+    byte 256, frame 1, 00:00:00.032: 257 bytes in no frame: crc2 is bad, and no header stands where the frame would end
     where: [....xxxxxx..................................................]
-    times count whole frames alone: behind lost bytes they are early
+    times count whole frames alone: bytes in no frame take none
 ";
     checks("a_byte_too_many", &bytes, 1, table);
 }
@@ -286,7 +286,7 @@ bad    E-AC-3  1/0          48      64       13  00:00:00.416  x
     1 bad place: 6 bytes in no frame at 1 place
     byte 0, frame 0, 00:00:00.000: 6 bytes in no frame: refusal 20, frame length unfit for a CRC
     where: [x...........................................................]
-    times count whole frames alone: behind lost bytes they are early
+    times count whole frames alone: bytes in no frame take none
 ";
     checks("too_short", &bytes, 1, table);
 }

@@ -15,7 +15,7 @@ use zelamodurk::frame;
 
 /// The last line where something is left out.
 const EARLIER: &str =
-    "What follows a place comes earlier by what is left out; --bad repeat keeps the time.\n";
+    "What follows a place comes earlier by what is left out; --bad repeat puts earlier frames there.\n";
 
 /// The report of a run that wrote so many frames, with a line for each place.
 fn report(frames: usize, places: &[String], end: &str) -> String {
@@ -49,6 +49,7 @@ fn some(stream: &[u8], numbers: impl IntoIterator<Item = usize>) -> Vec<u8> {
 #[track_caller]
 fn fixes(room: &Room, words: &[&str], status: i32, report: &str) -> Vec<u8> {
     let words = [&["fix"], words, &["in", "out"]].concat();
+    let _ = fs::remove_file(room.path("out"));
     room.writes(&words, status, report, "");
     assert_eq!(room.list(), ["in", "out"]);
     let check = room.run(&["check", "-q", "--allow-changes", "out"]);
@@ -99,7 +100,7 @@ fn beside(frames: usize) -> String {
 }
 
 const ONE: &str = "an earlier frame stands in";
-const NONE: &str = "left out, since no frame fits in its place";
+const NONE: &str = "left out, and nothing stands in";
 
 /// The numbers of 13 frames, with others in some of their places.
 fn with(places: Range<usize>, others: &[usize]) -> Vec<usize> {
@@ -395,20 +396,30 @@ fn an_ac3_frame_may_have_a_dependent_substream() {
 #[test]
 fn where_nothing_is_bad_all_is_copied() {
     let room = Room::of("fix_nothing_is_bad");
-    let files = [
-        ac3(),
-        eac3(),
-        in_turn(),
-        units(),
-        [ac3(), sample("e_st_44.eac3")].concat(),
-    ];
+    let files = [ac3(), eac3(), in_turn(), units()];
     for bytes in files {
         room.put("in", &bytes);
         let count = frames(&bytes).len();
-        let report = format!("out: written, {count} frames\nNothing was bad.\n");
+        let report =
+            format!("out: written, {count} frames\nNo frame was bad, and no byte was in none.\n");
         for bad in ["drop", "repeat"] {
             assert_eq!(fixes(&room, &["--bad", bad], 0, &report), bytes);
         }
+    }
+}
+
+#[test]
+fn a_change_of_format_stays_and_is_told() {
+    let room = Room::of("fix_a_change_stays");
+    let bytes = [ac3(), sample("e_st_44.eac3")].concat();
+    room.put("in", &bytes);
+    let report = "\
+out: written, 25 frames
+No frame was bad, and no byte was in none.
+1 change of format stays: 'zela check' tells where.
+";
+    for bad in ["drop", "repeat"] {
+        assert_eq!(fixes(&room, &["--bad", bad], 1, report), bytes);
     }
 }
 
@@ -515,7 +526,7 @@ fn two_places_json(written: bool, frames: u64, stand_ins: [u64; 2]) -> String {
          \"repeated\": {repeated}, \"bad_bytes\": 1256, \"bad_offset\": 512, \
          \"bad_seconds\": 0.064000, \"bad_refusal\": 2, \
          \"bad_words\": \"the first 16 bits aren't 0x0B77\", \"bad_places\": 2, \
-         \"incomplete_frames\": 0, \"places\": [\
+         \"incomplete_frames\": 0, \"format_changes\": 0, \"places\": [\
          {{\"byte\": 512, \"frame\": 2, \"seconds\": 0.064000, \"bytes\": 1000, \"what\": \"gap\", \
          \"refusal\": 2, \"words\": \"the first 16 bits aren't 0x0B77\", \"stand_ins\": {first}}}, \
          {{\"byte\": 1512, \"frame\": 2, \"seconds\": 0.064000, \"bytes\": 256, \
@@ -543,7 +554,7 @@ fn json() {
 [
   {\"file\": \"in\", \"out\": \"out\", \"written\": true, \"frames\": 13, \"repeated\": 0, \
 \"bad_bytes\": 0, \"bad_offset\": null, \"bad_seconds\": null, \"bad_refusal\": null, \
-\"bad_words\": null, \"bad_places\": 0, \"incomplete_frames\": 0, \"places\": []}
+\"bad_words\": null, \"bad_places\": 0, \"incomplete_frames\": 0, \"format_changes\": 0, \"places\": []}
 ]
 ";
     fixes(&room, &["--format", "json"], 0, record);
@@ -567,15 +578,15 @@ fn csv() {
     let room = Room::of("fix_csv");
     room.put("in", &two_places());
     let lines = "\
-file,out,written,frames,repeated,bad_bytes,bad_offset,bad_seconds,bad_refusal,bad_words,bad_places,incomplete_frames
-in,out,true,17,5,1256,512,0.064000,2,the first 16 bits aren't 0x0B77,2,0
+file,out,written,frames,repeated,bad_bytes,bad_offset,bad_seconds,bad_refusal,bad_words,bad_places,incomplete_frames,format_changes
+in,out,true,17,5,1256,512,0.064000,2,the first 16 bits aren't 0x0B77,2,0,0
 ";
     let words = ["--format", "csv", "--bad", "repeat"];
     fixes(&room, &words, 1, lines);
     room.put("in", &eac3());
     let lines = "\
-file,out,written,frames,repeated,bad_bytes,bad_offset,bad_seconds,bad_refusal,bad_words,bad_places,incomplete_frames
-in,out,true,13,0,0,,,,,0,0
+file,out,written,frames,repeated,bad_bytes,bad_offset,bad_seconds,bad_refusal,bad_words,bad_places,incomplete_frames,format_changes
+in,out,true,13,0,0,,,,,0,0,0
 ";
     fixes(&room, &["--format", "csv"], 0, lines);
 }
@@ -594,7 +605,7 @@ const TRIED: &str = "\
 out: would be written, 12 frames
 1 place was bad:
     byte 512, frame 2, 00:00:00.064: crc2 is bad: left out
-What follows a place comes earlier by what is left out; --bad repeat keeps the time.
+What follows a place comes earlier by what is left out; --bad repeat puts earlier frames there.
 ";
 
 #[test]
@@ -616,7 +627,7 @@ out: would be written, 13 frames
     let words = ["fix", "-n", "--bad", "repeat", "in", "out"];
     room.writes(&words, 1, repeated, "");
     room.put("in", &ac3());
-    let good = "out: would be written, 13 frames\nNothing was bad.\n";
+    let good = "out: would be written, 13 frames\nNo frame was bad, and no byte was in none.\n";
     room.writes(&["fix", "-n", "in", "out"], 0, good, "");
     assert_eq!(room.list(), ["in", "out"]);
     assert_eq!(room.get("out"), b"old");
@@ -631,7 +642,7 @@ out: not written, since no good frame is there
 1 place was bad:
     byte 0, frame 0, 00:00:00.000: refusal 1, the frame breaks off after 200 of 256 bytes, 56 short: left out
 ";
-    room.writes(&["fix", "-n", "in", "out"], 1, report, "");
+    room.writes(&["fix", "-n", "in", "out"], 4, report, "");
     assert_eq!(room.list(), ["in"]);
 }
 
@@ -654,7 +665,7 @@ out: not written, since no good frame is there
     byte 0, frame 0, 00:00:00.000: {why}: {done}
 "
             );
-            room.writes(&["fix", "--bad", bad, "in", "out"], 1, &report, "");
+            room.writes(&["fix", "--bad", bad, "in", "out"], 4, &report, "");
             assert_eq!(room.get("out"), b"old");
             assert_eq!(room.list(), ["in", "out"]);
         }
@@ -819,7 +830,7 @@ fn standard_input_and_output() {
 standard output: written, 12 frames
 1 place was bad:
     byte 512, frame 2, 00:00:00.064: crc2 is bad: left out
-What follows a place comes earlier by what is left out; --bad repeat keeps the time.
+What follows a place comes earlier by what is left out; --bad repeat puts earlier frames there.
 ";
     assert_eq!(String::from_utf8(ran.stderr).unwrap(), report);
     assert_eq!(ran.status.code(), Some(1));
@@ -870,7 +881,7 @@ fn odd_names() {
         let ran = run_named(&room, &["fix", "in"], &[name]);
         ran.is(
             0,
-            &format!("{shown}: written, 13 frames\nNothing was bad.\n"),
+            &format!("{shown}: written, 13 frames\nNo frame was bad, and no byte was in none.\n"),
             "",
         );
         let at = room.path("in").with_file_name(name);
@@ -894,9 +905,9 @@ fn odd_names_in_records() {
     assert_eq!(ran.out.get(..start.len()), Some(start));
     let ran = run_named(&room, &["fix", "--format", "csv", "in"], &[out]);
     let lines = "\
-file,out,written,frames,repeated,bad_bytes,bad_offset,bad_seconds,bad_refusal,bad_words,bad_places,incomplete_frames
+file,out,written,frames,repeated,bad_bytes,bad_offset,bad_seconds,bad_refusal,bad_words,bad_places,incomplete_frames,format_changes
 in,\"a,
-\"\"\u{fffd}\",true,13,0,0,,,,,0,0
+\"\"\u{fffd}\",true,13,0,0,,,,,0,0,0
 ";
     ran.is(0, lines, "");
 }

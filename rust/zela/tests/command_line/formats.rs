@@ -3,7 +3,7 @@
 use crate::json::Json;
 use crate::room::{ac3, eac3, wrong, Ran, Room};
 
-const KEYS: &str = "file,good,codec,bytes,frames,seconds,bit_rate,crc1_good,crc1_bad,crc2_good,crc2_bad,skipped_bytes,bad_offset,bad_seconds,bad_refusal,bad_words,error,kind,layout,sample_rate,bit_rate_varies,bad_places,format_changes\n";
+const KEYS: &str = "file,good,codec,bytes,frames,seconds,bit_rate,crc1_good,crc1_bad,crc2_good,crc2_bad,skipped_bytes,bad_offset,bad_seconds,bad_refusal,bad_words,error,kind,layout,sample_rate,bit_rate_varies,bad_places,format_changes,state\n";
 
 #[test]
 fn csv_has_a_line_for_each_file() {
@@ -14,12 +14,12 @@ fn csv_has_a_line_for_each_file() {
     room.put("empty", &[]);
     room.put("both", &[ac3(), eac3()].concat());
     let lines = "\
-good.ac3,true,AC-3,3328,13,0.416000,64000,13,0,13,0,0,,,,,,,1/0,48000,false,0,0
-\"cut,\"\"it\"\".ac3\",false,AC-3,1000,3,0.096000,64000,3,0,3,0,232,768,0.096000,1,\"the frame breaks off after 232 of 256 bytes, 24 short\",,,1/0,48000,false,1,0
-wrong.eac3,false,E-AC-3,3328,13,0.416000,64000,0,0,12,1,0,2048,0.256000,,crc2 is bad,,,1/0,48000,false,1,0
-empty,false,,0,0,0.000000,,0,0,0,0,0,0,0.000000,3,under 6 bytes of header,,,,,false,0,0
-missing,,,,0,0.000000,,0,0,0,0,0,,,,,No such file or directory,,,,false,0,0
-both,false,AC-3+E-AC-3,6656,26,0.832000,64000,13,0,26,0,0,3328,0.416000,,the format changes from AC-3 1/0 48 kHz to E-AC-3 1/0 48 kHz,,,1/0,48000,false,1,1
+good.ac3,true,AC-3,3328,13,0.416000,64000,13,0,13,0,0,,,,,,,1/0,48000,false,0,0,good
+\"cut,\"\"it\"\".ac3\",false,AC-3,1000,3,0.096000,64000,3,0,3,0,232,768,0.096000,1,\"the frame breaks off after 232 of 256 bytes, 24 short\",,,1/0,48000,false,1,0,bad
+wrong.eac3,false,E-AC-3,3328,13,0.416000,64000,0,0,12,1,0,2048,0.256000,,crc2 is bad,,,1/0,48000,false,1,0,bad
+empty,false,,0,0,0.000000,,0,0,0,0,0,0,0.000000,3,under 6 bytes of header,,,,,false,0,0,wrong
+missing,,,,0,0.000000,,0,0,0,0,0,,,,,No such file or directory,,,,false,0,0,error
+both,false,AC-3+E-AC-3,6656,26,0.832000,64000,13,0,26,0,0,3328,0.416000,,the format changes from AC-3 1/0 48 kHz to E-AC-3 1/0 48 kHz,,,1/0,48000,false,1,1,bad
 ";
     let csv = [KEYS, lines].concat();
     let words = [
@@ -38,9 +38,9 @@ both,false,AC-3+E-AC-3,6656,26,0.832000,64000,13,0,26,0,0,3328,0.416000,,the for
 }
 
 /// The record of a good file, and that of one that is cut.
-const GOOD: &str = r#"{"file": "good.ac3", "good": true, "codec": "AC-3", "bytes": 3328, "frames": 13, "seconds": 0.416000, "bit_rate": 64000, "crc1_good": 13, "crc1_bad": 0, "crc2_good": 13, "crc2_bad": 0, "skipped_bytes": 0, "bad_offset": null, "bad_seconds": null, "bad_refusal": null, "bad_words": null, "error": null, "kind": null, "layout": "1/0", "sample_rate": 48000, "bit_rate_varies": false, "bad_places": 0, "format_changes": 0, "places": []}"#;
-const CUT: &str = r#"{"file": "a\"b\\c\u000a\u202e", "good": false, "codec": "AC-3", "bytes": 1000, "frames": 3, "seconds": 0.096000, "bit_rate": 64000, "crc1_good": 3, "crc1_bad": 0, "crc2_good": 3, "crc2_bad": 0, "skipped_bytes": 232, "bad_offset": 768, "bad_seconds": 0.096000, "bad_refusal": 1, "bad_words": "the frame breaks off after 232 of 256 bytes, 24 short", "error": null, "kind": null, "layout": "1/0", "sample_rate": 48000, "bit_rate_varies": false, "bad_places": 1, "format_changes": 0, "places": [{"byte": 768, "frame": 3, "seconds": 0.096000, "bytes": 232, "what": "cut", "refusal": 1, "words": "the frame breaks off after 232 of 256 bytes, 24 short"}]}"#;
-const MISSING: &str = r#"{"file": "missing", "good": null, "codec": null, "bytes": null, "frames": 0, "seconds": 0.000000, "bit_rate": null, "crc1_good": 0, "crc1_bad": 0, "crc2_good": 0, "crc2_bad": 0, "skipped_bytes": 0, "bad_offset": null, "bad_seconds": null, "bad_refusal": null, "bad_words": null, "error": "No such file or directory", "kind": null, "layout": null, "sample_rate": null, "bit_rate_varies": false, "bad_places": 0, "format_changes": 0, "places": []}"#;
+const GOOD: &str = r#"{"file": "good.ac3", "good": true, "codec": "AC-3", "bytes": 3328, "frames": 13, "seconds": 0.416000, "bit_rate": 64000, "crc1_good": 13, "crc1_bad": 0, "crc2_good": 13, "crc2_bad": 0, "skipped_bytes": 0, "bad_offset": null, "bad_seconds": null, "bad_refusal": null, "bad_words": null, "error": null, "kind": null, "layout": "1/0", "sample_rate": 48000, "bit_rate_varies": false, "bad_places": 0, "format_changes": 0, "state": "good", "places": []}"#;
+const CUT: &str = r#"{"file": "a\"b\\c\u000a\u202e", "good": false, "codec": "AC-3", "bytes": 1000, "frames": 3, "seconds": 0.096000, "bit_rate": 64000, "crc1_good": 3, "crc1_bad": 0, "crc2_good": 3, "crc2_bad": 0, "skipped_bytes": 232, "bad_offset": 768, "bad_seconds": 0.096000, "bad_refusal": 1, "bad_words": "the frame breaks off after 232 of 256 bytes, 24 short", "error": null, "kind": null, "layout": "1/0", "sample_rate": 48000, "bit_rate_varies": false, "bad_places": 1, "format_changes": 0, "state": "bad", "places": [{"byte": 768, "frame": 3, "seconds": 0.096000, "bytes": 232, "what": "cut", "refusal": 1, "words": "the frame breaks off after 232 of 256 bytes, 24 short"}]}"#;
+const MISSING: &str = r#"{"file": "missing", "good": null, "codec": null, "bytes": null, "frames": 0, "seconds": 0.000000, "bit_rate": null, "crc1_good": 0, "crc1_bad": 0, "crc2_good": 0, "crc2_bad": 0, "skipped_bytes": 0, "bad_offset": null, "bad_seconds": null, "bad_refusal": null, "bad_words": null, "error": "No such file or directory", "kind": null, "layout": null, "sample_rate": null, "bit_rate_varies": false, "bad_places": 0, "format_changes": 0, "state": "error", "places": []}"#;
 
 #[test]
 fn json_has_an_object_for_each_file() {

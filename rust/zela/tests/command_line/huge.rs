@@ -79,7 +79,7 @@ bad    AC-3    1/0          48      64        2  00:00:00.064  huge
     byte 256, frame 1, 00:00:00.032: 4,294,968,040 bytes in no frame: refusal 2, the first 16 bits aren't 0x0B77
     byte 4,294,968,552, frame 2, 00:00:00.064: 10 bytes in no frame: refusal 2, the first 16 bits aren't 0x0B77
     where: [xxxxxxxxxxxxxxxxxxxxxxxxxxxxxxxxxxxxxxxxxxxxxxxxxxxxxxxxxxxx]
-    times count whole frames alone: behind lost bytes they are early
+    times count whole frames alone: bytes in no frame take none
 ";
     room.writes(&["check", "huge"], 1, table, "");
     let bit = ((1u64 << 32) + 1000) * 8;

@@ -11,31 +11,31 @@ fn kind(name: &str) -> Vec<u8> {
     fs::read(folder.join(name)).unwrap()
 }
 
+/// Files by their names, with the kinds that they are of.
+const FILES: [(&str, &str); 10] = [
+    ("my film.ts", "ts_188"),
+    ("film.mp4", "mp4"),
+    ("film.mkv", "matroska"),
+    ("film.avi", "avi"),
+    ("film.mpg", "ps_mpeg2"),
+    ("sound.wav", "wav_pcm"),
+    ("low.spdif", "bursts_low"),
+    ("high.spdif", "bursts_high"),
+    ("swapped.ac3", "swapped_ac3"),
+    ("song.mp3", "mp3_id3"),
+];
+
 #[test]
 fn a_file_of_another_kind_is_named_with_what_to_type() {
     let room = Room::of("another_kind");
-    room.put("my film.ts", &kind("ts_188"));
-    room.put("film.mp4", &kind("mp4"));
-    room.put("film.mkv", &kind("matroska"));
-    room.put("film.mpg", &kind("ps_mpeg2"));
-    room.put("sound.wav", &kind("wav_pcm"));
-    room.put("low.spdif", &kind("bursts_low"));
-    room.put("high.spdif", &kind("bursts_high"));
-    room.put("swapped.ac3", &kind("swapped_ac3"));
-    room.put("song.mp3", &kind("mp3_id3"));
-    let words = [
-        "check",
-        "my film.ts",
-        "film.mp4",
-        "film.mkv",
-        "film.mpg",
-        "sound.wav",
-        "low.spdif",
-        "high.spdif",
-        "swapped.ac3",
-        "song.mp3",
-    ];
-    let table = "\
+    FILES
+        .iter()
+        .for_each(|(name, first)| room.put(name, &kind(first)));
+    let words = [&["check"], &FILES.map(|(name, _)| name)[..]].concat();
+    room.writes(&words, 4, TABLE, "");
+}
+
+const TABLE: &str = "\
 state  codec   layout      kHz  kbit/s   frames        length  file
 wrong  -       -             -       -        -             -  my film.ts
     no AC-3 here: this is an MPEG transport stream
@@ -46,6 +46,9 @@ wrong  -       -             -       -        -             -  film.mp4
 wrong  -       -             -       -        -             -  film.mkv
     no AC-3 here: this is a Matroska or WebM file
     to get at any AC-3 in it: ffmpeg -i film.mkv -map 0:a:0 -c copy -f data OUT.ac3
+wrong  -       -             -       -        -             -  film.avi
+    no AC-3 here: this is an AVI file
+    to get at any AC-3 in it: ffmpeg -i film.avi -map 0:a:0 -c copy -f data OUT.ac3
 wrong  -       -             -       -        -             -  film.mpg
     no AC-3 here: this is an MPEG program stream
     to get at any AC-3 in it: ffmpeg -i film.mpg -map 0:a:0 -c copy -f data OUT.ac3
@@ -64,10 +67,8 @@ wrong  -       -             -       -        -             -  swapped.ac3
 wrong  -       -             -       -        -             -  song.mp3
     no AC-3 here: this is MPEG audio (MP2 or MP3)
 
-9 files: 0 good, 0 bad, 9 without AC-3
+10 files: 0 good, 0 bad, 10 without AC-3
 ";
-    room.writes(&words, 4, table, "");
-}
 
 #[test]
 fn a_pipe_of_another_kind_is_named_too() {

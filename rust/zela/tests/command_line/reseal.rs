@@ -160,8 +160,9 @@ fn ten_places_are_told_unless_all_are_asked_for() {
     let room = Room::of("reseal_ten_places");
     room.put("in", &all_edited());
     reseals(&room, 0, &thirteen(10));
-    room.writes(&["reseal", "--all", "in", "out"], 0, &thirteen(13), "");
-    room.writes(&["reseal", "-a", "in", "out"], 0, &thirteen(13), "");
+    let all = thirteen(13).replace("written", "replaced");
+    room.writes(&["reseal", "--all", "in", "out"], 0, &all, "");
+    room.writes(&["reseal", "-a", "in", "out"], 0, &all, "");
 }
 
 #[test]
@@ -176,7 +177,7 @@ Would be lost, since no frame there can be resealed: 200 bytes at 1 place:
     byte 0, frame 0, 00:00:00.000: refusal 1, the frame breaks off after 200 of 256 bytes, 56 short
 For damage there is 'zela fix'.
 ";
-    room.writes(&["reseal", "in", "out"], 1, report, "");
+    room.writes(&["reseal", "in", "out"], 4, report, "");
     assert_eq!(room.get("out"), b"old");
     assert_eq!(room.list(), ["in", "out"]);
 }
@@ -295,7 +296,7 @@ fn in_place_only_when_asked() {
     room.writes(&["reseal", "a.ac3", "./a.ac3"], 2, "", err);
     assert_eq!(room.get("a.ac3"), wrong(ac3(), 700, 1));
     let report = "\
-a.ac3: written, 13 frames
+a.ac3: replaced, 13 frames
 1 frame had bad checksums, and has new ones now:
     byte 512, frame 2, 00:00:00.064: crc2 is bad
 If that was damage, and no edit of yours, nothing in a.ac3 shows it any more.

@@ -14,7 +14,10 @@ fn shown(room: &Room, words: &str, set: &[(&str, &str)]) -> Option<String> {
         .current_dir(room.path(""));
     script.stdin(Stdio::null()).env("TERM", "xterm");
     script.env_remove("NO_COLOR").env_remove("COLUMNS");
-    let ran = script.envs(set.iter().copied()).output().ok()?;
+    let Ok(ran) = script.envs(set.iter().copied()).output() else {
+        println!("there is no `script`: nothing is shown on a terminal");
+        return None;
+    };
     Some(String::from_utf8(ran.stdout).unwrap().replace("\r\n", "\n"))
 }
 
@@ -77,6 +80,31 @@ fn bad_is_red_and_a_wrong_file_yellow() {
         "{out:?}"
     );
     assert!(!out.contains("zela: "), "{out:?}");
+}
+
+#[test]
+fn of_a_file_that_is_not_good_the_whole_name_is_shown() {
+    let room = Room::of("the_whole_name");
+    let name = "news_of_the_evening_2026-11-16.ac3";
+    room.put(name, &ac3()[..1000]);
+    let Some(out) = shown(&room, &format!("check {name}"), &[("NO_COLOR", "1")]) else {
+        return;
+    };
+    let rows = "  news_of_..-16.ac3\n    news_of_the_evening_2026-11-16.ac3\n    1 bad place: ";
+    assert!(out.contains(rows), "{out:?}");
+}
+
+#[test]
+fn frames_are_not_shown_on_a_terminal() {
+    let room = Room::of("no_frames");
+    room.put("a", &ac3());
+    for command in ["fix", "reseal"] {
+        let Some(out) = shown(&room, &format!("{command} a -"), &[]) else {
+            return;
+        };
+        let err = "zela: standard output: is the terminal, which shows no frames\n";
+        assert_eq!(out, err);
+    }
 }
 
 #[test]

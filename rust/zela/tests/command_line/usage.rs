@@ -54,18 +54,33 @@ Try 'zela help'.
 }
 
 #[test]
+fn a_name_that_begins_with_a_dash_gets_what_to_type() {
+    let room = Room::of("a_dash");
+    room.put("-x.ac3", &ac3());
+    let err = "\
+zela: no such option: -x.ac3; to name that file: ./-x.ac3
+Try 'zela help check'.
+";
+    room.writes(&["check", "-x.ac3"], 2, "", err);
+}
+
+#[test]
 fn misuse_is_told_and_has_status_2() {
     misuses(&["-q"], "a command is missing", "");
     misuses(&["check"], "check takes one file or more", "check");
     misuses(
         &["check", "--al", "a"],
         "no such option: --al; did you mean --all?",
-        "",
+        "check",
     );
-    misuses(&["check", "--colour"], "no such option: --colour", "");
-    misuses(&["check", "-x"], "no such option: -x", "");
-    misuses(&["check", "-qx"], "no such option: -qx", "");
-    misuses(&["check", "--all=yes", "a"], "--all takes no value", "");
+    misuses(&["check", "--colour"], "no such option: --colour", "check");
+    misuses(&["check", "-x"], "no such option: -x", "check");
+    misuses(&["check", "-qx"], "no such option: -qx", "check");
+    misuses(
+        &["check", "--all=yes", "a"],
+        "--all takes no value",
+        "check",
+    );
     misuses(
         &["check", "-i", "a"],
         "--in-place does not go with check",
@@ -124,7 +139,7 @@ fn misuse_of_bits_has_status_2_too() {
     misuses(&["bits", "a", "0"], three, "bits");
     let not = |which, word| format!("{which} is not a number of bits below 2^64: {word}");
     misuses(&["bits", "a", "x", "1"], &not("POS", "x"), "bits");
-    misuses(&["bits", "a", "0", "-1"], "no such option: -1", "");
+    misuses(&["bits", "a", "0", "-1"], "no such option: -1", "bits");
     let huge = "18446744073709551616";
     misuses(&["bits", "a", "0", huge], &not("WIDTH", huge), "bits");
     misuses(&["bits", "a", "0", ""], &not("WIDTH", "''"), "bits");
@@ -169,7 +184,7 @@ fn messages_keep_to_their_line() {
     misuses(
         &["check", &option],
         &format!("no such option: --{said}"),
-        "",
+        "check",
     );
 }
 
@@ -276,9 +291,12 @@ fn options(text: &str) -> Vec<&str> {
 fn the_manual_is_of_this_version_and_has_each_option() {
     let manual = manual();
     assert!(manual.contains(concat!("\"zela ", env!("CARGO_PKG_VERSION"), "\"")));
+    let (_, own) = manual.split_once(".SH OPTIONS").unwrap();
+    let (own, _) = own.split_once(".SH KEYS").unwrap();
+    let own = options(own);
     for command in COMMANDS {
         for option in options(&help_of(command)) {
-            assert!(manual.contains(option), "{option}");
+            assert!(own.contains(&option), "{option}");
         }
     }
 }
@@ -314,8 +332,11 @@ fn the_manual_has_each_key() {
             .for_each(|line| keys(&Json::of(line), &mut named));
     }
     assert!(named.len() > 60, "{named:?}");
+    let (_, own) = manual.split_once(".SH KEYS").unwrap();
+    let (own, _) = own.split_once(".SH REFUSALS").unwrap();
+    let marked = own.lines().filter(|line| line.starts_with(".B"));
+    let own: Vec<&str> = marked.flat_map(str::split_whitespace).collect();
     for key in named {
-        let is_key = |word: &str| word.trim_end_matches([',', '.']) == key;
-        assert!(manual.split_whitespace().any(is_key), "{key}");
+        assert!(own.contains(&key.as_str()), "{key}");
     }
 }
