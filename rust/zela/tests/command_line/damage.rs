@@ -3,7 +3,7 @@
 
 use crate::fix::{frames, units};
 use crate::json::Json;
-use crate::room::{ac3, eac3, sample, Room};
+use crate::room::{ac3, eac3, sample, sealed, Room};
 use zelamodurk::frame::{self, Codec};
 
 const FILES: usize = if zelamodurk::EMULATED { 20 } else { 300 };
@@ -234,28 +234,63 @@ fn earlier_good_frames_stand_in_and_nothing_else() {
     }
 }
 
+/// A stream of several substreams: its units have frames of these stream types, numbers and lengths.
+fn form(unit: &[(u8, u8, usize)]) -> Vec<u8> {
+    let stream = eac3();
+    let frame = |start: &[u8], (strmtyp, id, length): (u8, u8, usize)| {
+        let mut frame = start[..length].to_vec();
+        frame[2] = strmtyp << 6 | id << 3;
+        frame[3] = (length / 2 - 1) as u8;
+        sealed(frame)
+    };
+    let units = stream.chunks(256).map(|start| {
+        let frames = unit.iter().map(|kind| frame(start, *kind));
+        frames.collect::<Vec<_>>().concat()
+    });
+    units.collect::<Vec<_>>().concat()
+}
+
+/// Streams of several substreams, of the same lengths and of others, and of two programmes; and one of one substream
+/// whose frames have two lengths in no order.
+fn forms() -> Vec<Vec<u8>> {
+    let (first, dependent) = ((0, 0, 120), (1, 0, 64));
+    let lengths = [200, 90, 90, 200, 200, 200, 90].map(|length| (0, 0, length));
+    vec![
+        units().repeat(3),
+        form(&[first, dependent, (0, 1, 90)]),
+        form(&[(0, 0, 100), (1, 0, 100), (1, 1, 100)]),
+        form(&[first, dependent, (1, 1, 80), (0, 1, 90), dependent]),
+        form(&lengths),
+    ]
+}
+
 #[test]
 fn of_several_substreams_good_frames_alone_are_written_and_in_order() {
     let room = Room::of("damage_substreams");
-    // So many units that one at least is left whole.
-    let streams = [units().repeat(3)];
+    let streams = forms();
     let mut chance = Chance(0x0B77);
-    for number in 0..FILES {
+    for number in 0..2 * FILES {
         let file = File::of(&room, chance.file(&streams));
         let good = file.stretches().concat();
         let good = frames(&good);
+        // A unit that lacks a frame would be a change of format.
+        let is_good = |bad: &str| {
+            if file.checked.at("format_changes") == &Json::Number(0.0) {
+                let checked = room.run(&["check", "-q", "out"]);
+                assert_eq!(checked.status, 0, "file {number}, {bad}");
+            }
+        };
         if let Some(fixed) = fixed(&room, &file, "drop") {
             let mut left = good.iter();
             let mut follows = |frame: &&[u8]| left.any(|next| next == frame);
             assert!(frames(&fixed.out).iter().all(&mut follows), "file {number}");
-            // Where frames of one substream alone were left, the format would change.
-            if file.checked.at("format_changes") == &Json::Number(0.0) {
-                room.writes(&["check", "-q", "out"], 0, "", "");
-            }
+            is_good("drop");
         }
         if let Some(fixed) = fixed(&room, &file, "repeat") {
-            let is_good = |frame: &&[u8]| good.contains(frame);
-            assert!(frames(&fixed.out).iter().all(is_good), "file {number}");
+            let is_one = |frame: &&[u8]| good.contains(frame);
+            assert!(frames(&fixed.out).iter().all(is_one), "file {number}");
+            assert_eq!(fixed.stand_ins.iter().sum::<usize>(), fixed.repeated);
+            is_good("repeat");
         }
     }
 }
