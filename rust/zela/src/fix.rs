@@ -4,6 +4,8 @@
 //! others: a unit that lacks a frame by damage is left out as a whole.
 
 use crate::args::{Instead, Rewrite};
+use crate::core::Status;
+use crate::formats::Formats;
 use crate::frames::{Frame, Item, Lost};
 use crate::outcome::{Failure, Outcome};
 use crate::report::{Record, Value};
@@ -27,13 +29,18 @@ pub fn run(asked: &Rewrite, instead: Instead) -> Result<Outcome, Failure> {
         frames: 0,
         repeated: 0,
         incomplete: 0,
-        written: Vec::new(),
+        formats: Formats::default(),
         changes: 0,
         bad: Places::new(asked),
     };
     rewrite::run(asked, way)
 }
 
+/// The checksums of a frame that is written are good.
+const GOOD: Status = Status {
+    crc1: None,
+    crc2: true,
+};
 /// What leaving out means for what follows.
 const EARLIER: &str =
     "What follows a place comes earlier by what is left out; --bad repeat puts earlier frames there.";
@@ -45,15 +52,17 @@ const HELD: usize = 1 << 20;
 #[derive(Clone, Default)]
 struct Held {
     unit: Unit,
-    bytes: Vec<u8>,
-    /// For each of its frames that stands in for a lost one, the number of the bad place.
-    repeated: Vec<u64>,
+    sounds: Vec<Sound>,
+    frames: Vec<Vec<u8>>,
+    /// For each of its frames that stands in for a lost one, the number of the bad place, if there was one.
+    repeated: Vec<Option<u64>>,
 }
 
 impl Held {
     fn add(&mut self, sound: Sound, bytes: &[u8]) {
         self.unit.push(sound.format);
-        self.bytes.extend_from_slice(bytes);
+        self.sounds.push(sound);
+        self.frames.push(bytes.to_vec());
     }
 }
 
@@ -75,8 +84,8 @@ struct Fix {
     repeated: u64,
     /// How many frames are left out that are good, since others of their units are lost.
     incomplete: u64,
-    /// The frames of the last unit that was written, and how often they were others than before.
-    written: Vec<Format>,
+    /// The formats of what is written, and how often they change.
+    formats: Formats,
     changes: u64,
     bad: Places,
 }
@@ -107,11 +116,11 @@ impl Fix {
             self.complete();
         }
         let now = std::mem::take(&mut self.now);
-        if !now.unit.is_broken && !now.unit.formats.is_empty() {
+        self.has_first |= now.unit.has_first();
+        if !now.unit.is_broken && now.unit.has_first() {
             self.whole.clone_from(&now.unit.formats);
         }
-        self.has_first |= now.unit.has_first();
-        self.held_bytes += now.bytes.len();
+        self.held_bytes += now.frames.iter().map(Vec::len).sum::<usize>();
         self.held.push(now);
         match !self.whole.is_empty() || self.held_bytes > HELD {
             true => self.write_held(put),
@@ -120,31 +129,38 @@ impl Fix {
     }
 
     fn complete(&mut self) {
-        while let Some(at) = self
+        let unit = &self.now.unit;
+        let next = self
             .stand_ins
-            .completing(|sound| self.now.unit.is_before(&sound.format))
-        {
+            .completing(|sound| unit.is_full(&sound.format));
+        if let (Some(at), true) = (next, unit.has_first()) {
             self.stand_in(at);
+            self.complete();
         }
     }
 
-    /// Writes the units that are held, but for broken ones with other substreams than they should have.
+    /// Writes the units that are held, but for those that lack substreams.
     fn write_held(&mut self, put: &mut Put<'_>) -> Result<(), Failure> {
-        let longest = self.longest();
+        if self.whole.is_empty() {
+            self.whole = self.longest();
+        }
         self.held_bytes = 0;
         for held in std::mem::take(&mut self.held) {
-            let (frames, repeated) = (held.unit.formats.len(), held.repeated.len());
-            if held.unit.is_broken && self.is_other(&held.unit, &longest) {
-                self.incomplete += (frames - repeated) as u64;
+            let (frames, repeated) = (held.frames.len() as u64, held.repeated.len() as u64);
+            if self.lacks_some(&held.unit) {
+                self.incomplete += frames - repeated;
                 continue;
             }
-            self.frames += frames as u64;
-            self.repeated += repeated as u64;
+            self.frames += frames;
+            self.repeated += repeated;
             held.repeated
                 .iter()
+                .flatten()
                 .for_each(|place| self.bad.stands_in(*place));
-            put(&held.bytes)?;
-            self.compare(held.unit);
+            for (sound, frame) in held.sounds.iter().zip(&held.frames) {
+                put(frame)?;
+                self.follow(*sound, frame);
+            }
         }
         Ok(())
     }
@@ -157,27 +173,24 @@ impl Fix {
         longest.map_or(Vec::new(), |unit| unit.formats.clone())
     }
 
-    /// Whether a broken unit has other substreams than whole ones; before one is known, than the longest.
-    fn is_other(&self, unit: &Unit, longest: &[Format]) -> bool {
-        let whole = if self.whole.is_empty() {
-            longest
-        } else {
-            &self.whole
-        };
+    /// Whether a unit beside damage, or one without its first frame, has other substreams than whole ones.
+    fn lacks_some(&self, unit: &Unit) -> bool {
         let substreams = |formats: &[Format]| -> Vec<Substream> {
             formats.iter().map(|format| format.substream).collect()
         };
-        substreams(&unit.formats) != substreams(whole)
+        let is_torn = unit.is_broken || (self.has_first && !unit.has_first());
+        is_torn && substreams(&unit.formats) != substreams(&self.whole)
     }
 
-    /// Counts the changes of format that stay.
-    fn compare(&mut self, unit: Unit) {
-        if unit.formats.is_empty() {
-            return;
-        }
-        let is_other = !self.written.is_empty() && self.written != unit.formats;
-        self.changes += u64::from(is_other);
-        self.written = unit.formats;
+    /// Counts the changes of format that stay, as a check will.
+    fn follow(&mut self, sound: Sound, bytes: &[u8]) {
+        let frame = Frame {
+            codec: sound.format.codec,
+            status: GOOD,
+            sound: Some(sound),
+            bytes,
+        };
+        self.changes += self.formats.add(Place::default(), &frame).len() as u64;
     }
 
     /// Puts what stands in for a bad place. The units on both sides of it may lack a frame.
@@ -186,8 +199,8 @@ impl Fix {
         self.bad.add(bad);
         self.now.unit.is_broken = true;
         let stands_in = self.instead == Instead::LastGood && self.fill(lost, bytes, put)? > 0;
-        // What follows a stand-in is not cut off from it.
-        if !stands_in {
+        // What follows a stand-in, or a few bytes, is not cut off from what was before.
+        if !stands_in && (lost.is_some() || !self.stand_ins.is_little(bytes)) {
             self.now.unit.interrupt();
         }
         Ok(())
@@ -217,7 +230,7 @@ impl Fix {
         let bytes = self.stand_ins.take(at);
         self.now.add(sound, bytes);
         self.now.unit.is_broken = true;
-        self.now.repeated.push(self.bad.count - 1);
+        self.now.repeated.push(self.bad.count.checked_sub(1));
         bytes.len()
     }
 
@@ -259,9 +272,14 @@ impl Way for Fix {
         self.bad(Bad::new(place, bytes, trouble), lost, put)
     }
 
+    /// The last unit may be torn off by the end, and is measured as one beside damage is.
     fn end(&mut self, put: &mut Put<'_>) -> Result<(), Failure> {
+        let is_known = !self.whole.is_empty();
+        self.now.unit.is_broken |= is_known && self.now.unit.formats.len() < self.whole.len();
         self.close(put)?;
-        self.write_held(put)
+        self.write_held(put)?;
+        self.changes += u64::from(self.formats.complete().is_some());
+        Ok(())
     }
 
     fn frames(&self) -> u64 {
@@ -275,16 +293,9 @@ impl Way for Fix {
 
     /// A change of format stays as it is, and is no good output either.
     fn outcome(&self) -> Outcome {
-        match self.bad.count + self.changes {
+        match self.bad.count + self.incomplete + self.repeated + self.changes {
             0 => Outcome::Good,
             _ => Outcome::Damage,
-        }
-    }
-
-    fn why_not(&self) -> &'static str {
-        match self.incomplete {
-            0 => "no good frame is there",
-            _ => "no unit of it has all its frames",
         }
     }
 
@@ -322,22 +333,33 @@ impl Fix {
     /// The bad places, and what was done there.
     fn bad_lines(&self, done: &Done) -> Vec<String> {
         if self.bad.count == 0 {
-            return vec!["No frame was bad, and no byte was in none.".to_string()];
+            let none = "No frame was bad, and no byte was in none.".to_string();
+            let torn = counted(
+                self.repeated,
+                "earlier frame stands",
+                "earlier frames stand",
+            );
+            let torn = (self.repeated > 0)
+                .then(|| format!("{torn} in at the end, where others are missing."));
+            let lines = [Some(none), torn, self.incomplete_line()];
+            return lines.into_iter().flatten().collect();
         }
         let was = if self.bad.count == 1 { "was" } else { "were" };
         let places = counted(self.bad.count, "place", "places");
         let mut lines = vec![format!("{places} {was} bad:")];
         let told = |bad: &Bad, stand_ins| format!("{bad}: {}", self.done(stand_ins));
         lines.extend(self.bad.lines(told));
-        if self.incomplete > 0 {
-            let frames = counted(self.incomplete, "good frame", "good frames");
-            lines.push(format!(
-                "{frames} beside them left out too: other substreams of the same time are lost."
-            ));
-        }
+        lines.extend(self.incomplete_line());
         if self.instead == Instead::Nothing && done.fate != Fate::Left {
             lines.push(EARLIER.to_string());
         }
         lines
+    }
+
+    /// How many good frames are left out, if there are such.
+    fn incomplete_line(&self) -> Option<String> {
+        let frames = counted(self.incomplete, "good frame", "good frames");
+        let words = "left out: other substreams of the same time are lost.";
+        (self.incomplete > 0).then(|| format!("{frames} {words}"))
     }
 }

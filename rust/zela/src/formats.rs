@@ -1,7 +1,7 @@
 //! The format of a stream, and where it changes.
 //!
-//! Units are compared with each other, so that a substream that comes or goes is a change too. A unit beside damage
-//! may lack a frame: of it only the substreams that are there are compared.
+//! A frame is compared with the one of the same substream before it, and a unit with the one before it, so that a
+//! substream that comes or goes is a change too. A unit beside damage may lack a frame: only its frames are compared.
 
 use crate::clock::Time;
 use crate::frames::Frame;
@@ -14,14 +14,14 @@ use crate::units::Unit;
 const WORD: u64 = 2;
 
 /// What is known of a stream's format.
-#[derive(Default)]
+#[derive(Clone, Default)]
 pub struct Formats {
     unit: Unit,
     /// Where the unit begins, its bytes and its time.
     place: Place,
     bytes: u64,
     time: Time,
-    /// The unit that the next one is compared with. It is broken as long as no whole one has come.
+    /// What the next frames are compared with. It is broken where not all substreams of it are known.
     known: Unit,
     /// The format of the first frame, where there is no good one.
     first: Option<Format>,
@@ -33,23 +33,29 @@ pub struct Formats {
 }
 
 impl Formats {
-    /// The next frame; the unit before it may be complete by it, and tell a change.
-    pub fn add(&mut self, place: Place, frame: &Frame<'_>) -> Option<Bad> {
+    /// The next frame, with the changes that it tells: the unit before it may be complete by it.
+    pub fn add(&mut self, place: Place, frame: &Frame<'_>) -> Vec<Bad> {
         let Some(Sound { format, .. }) = frame.sound.filter(|_| frame.status.is_good()) else {
             self.first = self.first.or(frame.sound.map(|sound| sound.format));
             self.interrupt();
-            return None;
+            return Vec::new();
         };
-        let mut change = None;
+        let mut changes = Vec::new();
         if self.unit.formats.is_empty() || self.unit.is_before(&format) {
-            change = self.complete();
+            changes.extend(self.complete());
             self.unit.begin(&format);
             (self.place, self.bytes, self.time) = (place, 0, Time::default());
         }
+        let before = self.known.counterpart(&self.unit, &format);
         self.unit.push(format);
+        if before.is_some_and(|before| before != format) {
+            // What else the new format has is not known before its unit is complete.
+            let now = Unit::of(self.unit.formats.clone(), true);
+            changes.push(self.change_to(now, place));
+        }
         self.bytes += frame.bytes.len() as u64;
         self.time += frame.sound.map(|sound| sound.time()).unwrap_or_default();
-        change
+        changes
     }
 
     /// Damage stands here.
@@ -62,62 +68,31 @@ impl Formats {
         if self.unit.formats.is_empty() {
             return None;
         }
-        if !self.unit.is_broken {
-            self.compare_pace();
-            if self.unit.formats == self.known.formats && !self.known.is_broken {
-                return None;
+        if self.unit.is_broken {
+            if self.known.formats.is_empty() {
+                self.known = Unit::of(self.unit.formats.clone(), true);
             }
-        }
-        let now = self.merged();
-        let was = std::mem::replace(&mut self.known, now);
-        if was.formats.is_empty() || !self.is_changed(&was) {
             return None;
         }
-        self.layout_varies |= layout(&was.formats) != layout(&self.known.formats);
-        self.rate_varies |= rate(&was.formats) != rate(&self.known.formats);
-        let (was, is) = (
-            words(&was.formats).into(),
-            words(&self.known.formats).into(),
-        );
-        let trouble = Trouble::Changed { was, is };
-        Some(Bad::new(self.place, 0, trouble))
+        self.compare_pace();
+        if self.known.is_broken || self.known.formats.is_empty() {
+            self.known = Unit::of(self.unit.formats.clone(), false);
+            return None;
+        }
+        if self.unit.formats == self.known.formats {
+            return None;
+        }
+        let now = Unit::of(self.unit.formats.clone(), false);
+        Some(self.change_to(now, self.place))
     }
 
-    /// What is known once the unit is, too. Of a broken one, the frames take the places of those of their substreams.
-    fn merged(&self) -> Unit {
-        if !self.unit.is_broken {
-            return self.unit.clone();
-        }
-        let mut known = self.known.keys();
-        for (key, format) in self.unit.keys() {
-            match known.iter_mut().find(|(own, _)| *own == key) {
-                Some((_, own)) => *own = format,
-                // Before a whole unit has come, any substream may be one of it.
-                None if self.known.formats.is_empty() || self.known.is_broken => {
-                    known.push((key, format));
-                }
-                None => {}
-            }
-        }
-        let formats = known.into_iter().map(|(_, format)| format).collect();
-        Unit::of(
-            formats,
-            self.known.formats.is_empty() || self.known.is_broken,
-        )
-    }
-
-    /// Whether what is known now is another format than before: of two whole units by all their substreams, else by
-    /// those that both have.
-    fn is_changed(&self, was: &Unit) -> bool {
-        if !was.is_broken && !self.known.is_broken {
-            return was.formats != self.known.formats;
-        }
-        let now = self.known.keys();
-        let is_other = |(key, format)| {
-            now.iter()
-                .any(|(own, other)| *own == key && *other != format)
-        };
-        was.keys().into_iter().any(is_other)
+    fn change_to(&mut self, now: Unit, place: Place) -> Bad {
+        let was = std::mem::replace(&mut self.known, now);
+        let (was, is) = (&was.formats, &self.known.formats);
+        self.layout_varies |= layout(was) != layout(is);
+        self.rate_varies |= rate(was) != rate(is);
+        let (was, is) = (words(was).into(), words(is).into());
+        Bad::new(place, 0, Trouble::Changed { was, is })
     }
 
     fn compare_pace(&mut self) {

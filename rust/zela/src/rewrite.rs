@@ -36,10 +36,6 @@ pub trait Way: Clone {
     fn in_place(&self) -> &'static str {
         ""
     }
-    /// Why nothing is written, where there is nothing to write.
-    fn why_not(&self) -> &'static str {
-        "no good frame is there"
-    }
     /// Whether a file itself is to be replaced by what was written.
     fn is_worth_it(&self) -> bool;
     fn outcome(&self) -> Outcome;
@@ -238,7 +234,9 @@ fn report(way: &impl Way, done: &Done, asked: &Rewrite) -> String {
         Fate::Written => format!("{out}: written, {frames}"),
         Fate::Replaced => format!("{out}: replaced, {frames}"),
         Fate::Tried => format!("{out}: would be written, {frames}"),
-        Fate::Left if asked.to.is_some() => format!("{out}: not written, since {}", way.why_not()),
+        Fate::Left if asked.to.is_some() => {
+            format!("{out}: not written, since no good frame is there")
+        }
         Fate::Left => format!("{out}: left as it is"),
     };
     let lines = [first].into_iter().chain(way.lines(done));

@@ -2,8 +2,9 @@
 //!
 //! The last good frame of each length and header is kept, with the one that followed it. A header that is there is
 //! that of one lost frame. What would have followed stands in for it if it has the same length, since the header may
-//! be damaged; else the frame of the same length and header; else the last one of the same substream. Where no
-//! header is left, the frames that would have followed stand in, as many as come nearest to the bytes that are lost.
+//! be damaged; else the frame of the same length and header; else the last one of the same substream; else what would
+//! have followed. Where no header is left, the frames that would have followed stand in, as many as come nearest to the
+//! bytes that are lost.
 
 use crate::frames::Lost;
 use crate::sound::{Sound, Substream};
@@ -134,7 +135,7 @@ impl StandIns {
     pub fn filling(&self, lost: Option<Lost>, bytes: u64) -> Filling {
         let first = lost.and_then(|lost| self.instead_of(lost));
         let left = match (first, lost) {
-            (None, Some(lost)) if self.is_other(lost) => 0,
+            (None, Some(lost)) if self.is_new(lost) => bytes.saturating_sub(lost.bytes as u64),
             _ => bytes,
         };
         let first = first.zip(lost.map(|lost| lost.bytes as u64));
@@ -143,23 +144,28 @@ impl StandIns {
 
     /// The kind that stands in for a frame whose header is there.
     fn instead_of(&self, lost: Lost) -> Option<usize> {
+        let successor = self.successor();
         let has_length = |at: &usize| {
-            self.kinds
-                .get(*at)
-                .is_some_and(|kept| kept.bytes.len() == lost.bytes)
+            let kept = self.kinds.get(*at);
+            kept.is_some_and(|kept| kept.bytes.len() == lost.bytes)
         };
-        let successor = self.successor().filter(has_length);
         let like = || self.like(lost.sound, lost.bytes);
-        successor
-            .or_else(like)
-            .or_else(|| self.of_substream(lost.sound))
+        let of_substream = || self.of_substream(lost.sound);
+        let known = successor.filter(has_length).or_else(like);
+        known.or_else(of_substream).or(successor)
     }
 
-    /// Whether a header is of another substream than all that have come, and of their codec: then it is likely right,
-    /// and nothing fits. A header of another codec is likely damaged.
-    fn is_other(&self, lost: Lost) -> bool {
+    /// Whether a header may well be of a substream that has not come yet: nothing fits for it. One of another codec is
+    /// likely damaged.
+    fn is_new(&self, lost: Lost) -> bool {
         let mut kinds = self.kinds.iter();
         kinds.any(|kept| kept.sound.format.codec == lost.sound.format.codec)
+    }
+
+    /// Whether fewer bytes are lost than half of the frame that would follow.
+    pub fn is_little(&self, bytes: u64) -> bool {
+        let follower = self.follower().and_then(|at| self.kinds.get(at));
+        follower.is_some_and(|kept| bytes < (kept.bytes.len() as u64).div_ceil(2))
     }
 
     /// The kind that stands in there next, if there is one more.

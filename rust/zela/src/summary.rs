@@ -136,7 +136,7 @@ impl Summary {
             self.crc1.add(is_good);
         }
         self.crc2.add(frame.status.crc2);
-        if let Some(change) = self.formats.add(place, frame) {
+        for change in self.formats.add(place, frame) {
             self.tell(change, found);
         }
         if !frame.status.is_good() {

@@ -37,7 +37,12 @@ impl Unit {
     /// Whether a frame begins another unit.
     pub fn is_before(&self, next: &Format) -> bool {
         let is_orphan = self.is_interrupted && !next.substream.is_independent();
-        next.substream.is_first() || is_orphan || self.has(next.substream)
+        is_orphan || self.is_full(next)
+    }
+
+    /// Whether a frame begins another unit, were nothing lost here.
+    pub fn is_full(&self, next: &Format) -> bool {
+        next.substream.is_first() || self.has(next.substream)
     }
 
     /// Begins the next unit, by its first frame. Behind damage, one that does not begin with independent substream 0
@@ -67,17 +72,28 @@ impl Unit {
         first.is_some_and(|format| format.substream.is_first())
     }
 
-    /// Its frames, each by its substream.
-    pub fn keys(&self) -> Vec<(Key, Format)> {
+    /// The substream of a frame that would come next, with the independent one that it depends on; none where that is
+    /// lost.
+    fn key(&self, next: &Format) -> Option<Key> {
+        if next.substream.is_independent() {
+            return Some((None, next.substream));
+        }
+        let mut parents = self.formats.iter().rev().map(|format| format.substream);
+        let parent = parents.find(|substream| substream.is_independent())?;
+        Some((Some(parent), next.substream))
+    }
+
+    /// The format that the unit has where another one has a frame that would come next.
+    pub fn counterpart(&self, other: &Unit, next: &Format) -> Option<Format> {
+        let key = other.key(next)?;
         let mut parent = None;
-        let key = |format: &Format| {
-            let substream = format.substream;
-            if substream.is_independent() {
-                parent = Some(substream);
-                return ((None, substream), *format);
+        let is_one = |format: &&Format| {
+            if format.substream.is_independent() {
+                parent = Some(format.substream);
+                return key == (None, format.substream);
             }
-            ((parent, substream), *format)
+            key == (parent, format.substream)
         };
-        self.formats.iter().map(key).collect()
+        self.formats.iter().find(is_one).copied()
     }
 }

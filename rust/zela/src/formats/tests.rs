@@ -22,7 +22,7 @@ fn followed(bytes: &[u8]) -> (Formats, Vec<(u64, String)>) {
     let tell = |bad: Bad| (bad.place.offset, bad.trouble.to_string());
     while let Some((place, item)) = frames.next().unwrap() {
         match item {
-            Item::Frame(frame) => changes.extend(formats.add(place, &frame).map(tell)),
+            Item::Frame(frame) => changes.extend(formats.add(place, &frame).into_iter().map(tell)),
             Item::Gap(_) => formats.interrupt(),
         }
     }
@@ -189,6 +189,40 @@ fn a_stream_without_end_of_substreams_takes_no_room() {
     }
     let (formats, _) = followed(&unit.repeat(20));
     assert!(formats.unit.formats.len() <= 72 && formats.known.formats.len() <= 72);
+}
+
+#[test]
+fn frames_without_the_one_they_depend_on_take_no_room() {
+    let mut lost = EAC3[..256].to_vec();
+    lost[100] ^= 1;
+    let pair = [lost, of_substream(1, 0)].concat();
+    let (formats, changes) = followed(&[&EAC3[..256], &pair.repeat(1000)].concat());
+    assert_eq!(changes, []);
+    assert_eq!(formats.layout().as_deref(), Some("1/0"));
+    assert!(formats.unit.formats.len() <= 2 && formats.known.formats.len() <= 2);
+}
+
+#[test]
+fn a_change_beside_damage_is_told_once_and_in_its_place() {
+    let with = |frame: &[u8]| {
+        let mut dependent = frame.to_vec();
+        dependent[2] |= 0x40;
+        core::repair(&mut dependent, core::Codec::Eac3).unwrap();
+        [frame, &dependent].concat()
+    };
+    let mut other = EAC3[..256].to_vec();
+    other[4] ^= 0x40;
+    core::repair(&mut other, core::Codec::Eac3).unwrap();
+    let mut damaged = with(&other);
+    damaged[256 + 100] ^= 1;
+    let units = [
+        with(&EAC3[..256]).repeat(3),
+        damaged,
+        with(&other).repeat(3),
+    ];
+    let (_, changes) = followed(&units.concat());
+    assert_eq!(changes.len(), 1);
+    assert_eq!(changes[0].0, 3 * 512);
 }
 
 #[test]

@@ -96,7 +96,7 @@ fn beside(frames: usize) -> String {
         1 => "1 good frame".to_string(),
         many => format!("{many} good frames"),
     };
-    format!("{frames} beside them left out too: other substreams of the same time are lost.\n")
+    format!("{frames} left out: other substreams of the same time are lost.\n")
 }
 
 const ONE: &str = "an earlier frame stands in";
@@ -405,6 +405,30 @@ fn where_nothing_is_bad_all_is_copied() {
         for bad in ["drop", "repeat"] {
             assert_eq!(fixes(&room, &["--bad", bad], 0, &report), bytes);
         }
+    }
+}
+
+#[test]
+fn a_unit_that_is_torn_off_is_completed_or_left_out() {
+    let room = Room::of("fix_a_torn_unit");
+    room.put("in", &units()[..3 * 512 + 256]);
+    let dropped = "\
+out: written, 6 frames
+No frame was bad, and no byte was in none.
+1 good frame left out: other substreams of the same time are lost.
+";
+    assert_eq!(fixes(&room, &[], 1, dropped), units()[..3 * 512]);
+    let repeated = "\
+out: written, 8 frames
+No frame was bad, and no byte was in none.
+1 earlier frame stands in at the end, where others are missing.
+";
+    let out = fixes(&room, &["--bad", "repeat"], 1, repeated);
+    assert_eq!(out, some(&units(), [0, 1, 2, 3, 4, 5, 6, 5]));
+    // Nothing stands in before the first unit.
+    room.put("in", &units()[256..]);
+    for bad in ["drop", "repeat"] {
+        assert_eq!(fixes(&room, &["--bad", bad], 1, dropped), units()[512..]);
     }
 }
 
