@@ -1,9 +1,11 @@
 // Refusals: why a call is refused, by document 01's table, and where.
+#![tactic(auto)]
+
 ghost use Rattle.std.specs.Prelude.{◌≡◌};
 ghost use Rattle.refusal.specs.Refusals.{number_of};
 
 // Document 01, "Refusal numbers", in its order: the first is 1, the last 21. A number that comes later is appended.
-#[derive(Drop)]
+#[derive(Clone, Copy)]
 pub enum Why {
     // an element would pass the limit, or a bit range its buffer
     PastLimit,
@@ -50,7 +52,7 @@ pub enum Why {
 }
 
 // Why a call is refused, and the cursor's bit, 0 without a cursor.
-#[derive(Drop)]
+#[derive(Clone, Copy)]
 pub struct Refusal {
     pub why: Why,
     pub bit: usize,
