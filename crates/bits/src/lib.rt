@@ -1,6 +1,8 @@
 // Bits over lent bytes, most significant first: read, set, compare.
 //
 // A position may be any usize, so that position + width can pass one: the functions below work on a byte and an offset in it.
+#![tactic(auto)]
+
 ghost use Rattle.std.specs.Prelude.{◌≡◌, ◌+◌, ◌-◌, ◌*◌, ◌/◌, ◌%◌, ◌^◌, ◌≤◌, ◌<◌, length, eqb};
 ghost use Rattle.refusal.specs.Refusals.{grounds_of, grounds};
 ghost use Rattle.bits.specs.Bits.{bits_at, with_bit, set_bit, set_bits};
@@ -9,21 +11,21 @@ ghost use Rattle.bits.specs.Answers.{beyond, got_of, done_of, put_of, judged_of,
 use refusal::{Refusal, Why};
 
 // What reading answers.
-#[derive(Drop)]
+#[derive(Clone, Copy)]
 pub enum Got {
     Value(u32),
     Refused(Refusal),
 }
 
 // What setting answers.
-#[derive(Drop)]
+#[derive(Clone, Copy)]
 pub enum Put {
     Done,
     Refused(Refusal),
 }
 
 // What comparing answers.
-#[derive(Drop)]
+#[derive(Clone, Copy)]
 pub enum Judged {
     Is(bool),
     Refused(Refusal),
