@@ -3,12 +3,8 @@
 use mathlib.Core.Path.{refl}
 use Rattle.crc.specs.Crc.{shift, idle}
 use Rattle.crc.specs.Table.{ruled}
-use Rattle.crc.proofs.table.Statement.{statement}
-use Rattle.crc.proofs.table.Tie as tie
+use Rattle.crc.proofs.table.Goals as goal
 
-returns : tie.Need-returns
+pub returns : goal.returns
 unfolding ruled idle shift
 returns c = refl
-
-pub table-spec : {M : Type 1} → statement M
-table-spec = tie.close (tie.spec returns)
