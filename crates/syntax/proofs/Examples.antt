@@ -5,7 +5,6 @@ use mathlib.Core.Bool.{true, false}
 use Prim.Native.Nat.{ℕ}
 use lib.ListN.{length, replicate}
 use lib.IntN.{pos, negsuc}
-use base.Fml.{GName}
 use Rattle.refusal.specs.Refusals.{grounds, taken, refused, Ran}
 use Rattle.bits.specs.Bits.{bit_at, bits_at}
 use Rattle.syntax.specs.declared.Role.{Role}
@@ -77,15 +76,15 @@ unfolding signed_of among
 roles = (refl, refl, refl, refl, refl, refl, refl, refl)
 
 -- a cursor over the same frame, wherever its bytes stand: a read moves it on in them, a refused one leaves it, closing a span counts one more
-abbrev cursor : ℕ × ℕ → GName → Cursor
-cursor at name = opened (record { ref_ptr = at; ghost_name = name; now = frame }) 48
+abbrev cursor : ℕ × ℕ → Cursor
+cursor at = opened (record { ref_ptr = at; now = frame }) 48
 
-pub over_cursor : (at : ℕ × ℕ) (name : GName)
-    → ((read_at (cursor at name) start.log (ask 256 Sync 16)).outcome ≡ taken 0x0B77)
-    × ((read_at (cursor at name) start.log (ask 256 Sync 16)).state.cursor
-    ≡ moved (cursor at name) (record { pos = 16; limit = 48; block = negsuc 0; count = 1 }))
-    × (raw_at (cursor at name) 33 ≡ raw_held_of (refused (grounds 6 0)) (cursor at name))
-    × ((close_at (raw_at (cursor at name) 16).state start.log 1 Mantissas 3).state.cursor
-    ≡ moved (cursor at name) (record { pos = 16; limit = 48; block = negsuc 0; count = 1 }))
+pub over_cursor : (at : ℕ × ℕ)
+    → ((read_at (cursor at) start.log (ask 256 Sync 16)).outcome ≡ taken 0x0B77)
+    × ((read_at (cursor at) start.log (ask 256 Sync 16)).state.cursor
+    ≡ moved (cursor at) (record { pos = 16; limit = 48; block = negsuc 0; count = 1 }))
+    × (raw_at (cursor at) 33 ≡ raw_held_of (refused (grounds 6 0)) (cursor at))
+    × ((close_at (raw_at (cursor at) 16).state start.log 1 Mantissas 3).state.cursor
+    ≡ moved (cursor at) (record { pos = 16; limit = 48; block = negsuc 0; count = 1 }))
 unfolding read_of fits raw_of closes close_of written bits_at bit_at
-over_cursor at name = (refl, refl, refl, refl)
+over_cursor at = (refl, refl, refl, refl)

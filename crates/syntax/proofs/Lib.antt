@@ -2,7 +2,6 @@ pub mod Agree
 pub mod Bools
 pub mod Ends
 pub mod Examples
-pub mod Lent
 pub mod Log
 pub mod ReadBack
 pub mod ReadLaws

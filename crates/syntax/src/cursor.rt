@@ -8,7 +8,7 @@ use crate::{Ask, Place, Role};
 use bits::{Got, Put};
 
 // The bytes that are read, and the place in them.
-#[derive(Drop)]
+#[derive(Clone, Copy)]
 pub struct Cursor<'a> {
     pub bytes: &'a [u8],
     pub place: Place,

@@ -2,6 +2,8 @@
 //
 // The log has eight words an element: name, role, block, index, position, width, value, and one that is 0 until it has a use.
 // A position, width, start, count or total may be any usize: a sum is formed only after a test that keeps it small.
+#![tactic(auto)]
+
 pub mod cursor;
 pub mod names;
 
@@ -17,7 +19,7 @@ use bits::{Got, Put};
 use refusal::{Refusal, Why};
 
 // What an element means to an editor of metadata. Those that carry a number carry their programme.
-#[derive(Drop)]
+#[derive(Clone, Copy)]
 pub enum Role {
     Plain,
     Sync,
@@ -57,7 +59,7 @@ pub enum Role {
 
 // An element as a value. Block and index are -1 where there is none; the value is 0 for spans.
 // Position and width are log words: what this crate logs ends at bit 32,768 at most.
-#[derive(Drop)]
+#[derive(Clone, Copy)]
 pub struct Element {
     pub name: u32,
     pub role: Role,
@@ -69,7 +71,7 @@ pub struct Element {
 }
 
 // The cursor's numbers: its bit, its limit, the block it is in, and how many elements are logged.
-#[derive(Drop)]
+#[derive(Clone, Copy)]
 pub struct Place {
     pub pos: usize,
     pub limit: usize,
@@ -78,7 +80,7 @@ pub struct Place {
 }
 
 // An element that is asked for.
-#[derive(Drop)]
+#[derive(Clone, Copy)]
 pub struct Ask {
     pub name: u32,
     pub role: Role,
@@ -87,21 +89,21 @@ pub struct Ask {
 }
 
 // What a read answers, and the place after it, taken or refused.
-#[derive(Drop)]
+#[derive(Clone, Copy)]
 pub struct Reading {
     pub answer: Got,
     pub place: Place,
 }
 
 // The same where no value is read.
-#[derive(Drop)]
+#[derive(Clone, Copy)]
 pub struct Moved {
     pub answer: Put,
     pub place: Place,
 }
 
 // A reader that stays as it is once it is refused. The value is that of the last read, and 0 where the reader is refused.
-#[derive(Drop)]
+#[derive(Clone, Copy)]
 pub struct Reader {
     pub answer: Put,
     pub place: Place,
@@ -109,7 +111,7 @@ pub struct Reader {
 }
 
 // What looking up an element answers.
-#[derive(Drop)]
+#[derive(Clone, Copy)]
 pub enum Found {
     Is(Element),
     Refused(Refusal),
