@@ -1,5 +1,7 @@
 // The tables of bit allocation, ETSI TS 102 366 V1.4.1 ("TS") 6.2.2, and the tests of what a caller hands in: what the side
 // information's codes mean, which bins a band has, the pointers by address, and whether lent tables and delta segments are fit.
+#![tactic(auto)]
+
 ghost use Rattle.std.specs.Prelude.{◌≡◌, ◌≤◌, ◌-◌, min, ◌&&◌, leb, length};
 ghost use Rattle.tables.specs.Bands.{band_start, band_of};
 ghost use Rattle.tables.specs.Codes.{code_at, slow_decay, fast_decay, slow_gain, knee_table, floor_table, fast_gain, leak_of, snr_offset, fine_of, snr_of, coded_of};
@@ -7,11 +9,11 @@ ghost use Rattle.tables.specs.Pointers.{pointers_by, table_of};
 ghost use Rattle.tables.specs.Fits.{upto, lent_fits, tables_fit, delta_fits};
 
 // The number of a bin. A bin becomes a band, and a band a bin, only by the rule of the bands' first bins.
-#[derive(Drop)]
+#[derive(Clone, Copy)]
 pub struct Bin(pub usize);
 
 // The number of a band.
-#[derive(Drop)]
+#[derive(Clone, Copy)]
 pub struct Band(pub usize);
 
 // The slots: 0 to 4 are the full bandwidth channels, then come coupling, and LFE, the last.
@@ -22,7 +24,7 @@ pub const CPL: usize = 5;
 pub const LFE: usize = 6;
 
 // The delta segments, deltoffst, deltlen and deltba: the first `count` of each array.
-#[derive(Drop)]
+#[derive(Clone, Copy)]
 pub struct Delta {
     pub count: u8,
     pub offset: [u8; 8],
@@ -31,14 +33,14 @@ pub struct Delta {
 }
 
 // Which table of pointers: TS 6.2.2.7, or TS E.2.4.3.1.
-#[derive(Drop)]
+#[derive(Clone, Copy)]
 pub enum Pointers {
     Bap,
     Hebap,
 }
 
 // A code's value, or that the code is past its table.
-#[derive(Drop)]
+#[derive(Clone, Copy)]
 pub enum Coded {
     Value(i32),
     Past,

@@ -2,15 +2,13 @@
 -- Assumes nothing.
 use Prim.Native.Nat.{ℕ, ◌<◌, ◌≤◌, ◌^◌}
 use native.Mathlib.Omega.{arith}
-use borrow.Author.Rules.{rules}
 use lib.IntN.{pos, ◌-ℤ◌, ◌+ℤ◌, ◌*ℤ◌}
 use mir.Syntax.{w32}
 use mir.Val.{SFits}
 use mir.Facts.{to_z-of_z, to_z_pos}
 use Rattle.tables.specs.Codes.{snr_offset}
 use Rattle.tables.proofs.Signed.{sfits, min_law, add_law, mul_law}
-use Rattle.tables.proofs.snr_offset.Statement.{statement}
-use Rattle.tables.proofs.snr_offset.Tie as tie
+use Rattle.tables.proofs.snr_offset.Goals as goal
 
 module _ (a b : ℕ) (h : (a ≤ 63) × (b ≤ 15)) where
   f-1 : SFits w32 (pos a -ℤ pos 15)
@@ -39,35 +37,7 @@ module _ (a b : ℕ) (h : (a ≤ 63) × (b ≤ 15)) where
       let n = mul_law 4 (pos 16 *ℤ (pos a -ℤ pos 15) +ℤ pos b) in
       sfits _ (omega arith) (omega arith)
 
-sub-result : tie.Need-overflow-sub-result
-sub-result c =
-    let h : c.args.csnr < 2 ^ 31 = omega arith in
-    simp to_z_pos (f-1 c.args.csnr c.args.fsnr c.requires)
-
-mul-result : tie.Need-overflow-mul-result
-mul-result c =
-    let h : c.args.csnr < 2 ^ 31 = omega arith in
-    let f = f-1 c.args.csnr c.args.fsnr c.requires in
-    simp (to_z_pos, to_z-of_z) (f-2 c.args.csnr c.args.fsnr c.requires)
-
-add-result : tie.Need-overflow-add-result
-add-result c =
-    let h : c.args.csnr < 2 ^ 31 = omega arith in
-    let h' : c.args.fsnr < 2 ^ 31 = omega arith in
-    let f = f-1 c.args.csnr c.args.fsnr c.requires in
-    let g = f-2 c.args.csnr c.args.fsnr c.requires in
-    simp (to_z_pos, to_z-of_z) (f-3 c.args.csnr c.args.fsnr c.requires)
-
-mul-result-2 : tie.Need-overflow-mul-result-2
-mul-result-2 c =
-    let h : c.args.csnr < 2 ^ 31 = omega arith in
-    let h' : c.args.fsnr < 2 ^ 31 = omega arith in
-    let f = f-1 c.args.csnr c.args.fsnr c.requires in
-    let g = f-2 c.args.csnr c.args.fsnr c.requires in
-    let k = f-3 c.args.csnr c.args.fsnr c.requires in
-    simp (to_z_pos, to_z-of_z) (f-4 c.args.csnr c.args.fsnr c.requires)
-
-returns : tie.Need-returns
+pub returns : goal.returns
 unfolding snr_offset
 returns c =
     let h : c.args.csnr < 2 ^ 31 = omega arith in
@@ -77,15 +47,3 @@ returns c =
     let k = f-3 c.args.csnr c.args.fsnr c.requires in
     let l = f-4 c.args.csnr c.args.fsnr c.requires in
     simp (to_z_pos, to_z-of_z)
-
-pub snr-offset-spec : {M : Type 1} → statement M
-snr-offset-spec =
-    tie.close
-    (tie.spec
-    (λ c. search rules)
-    sub-result
-    mul-result
-    (λ c. search rules)
-    add-result
-    mul-result-2
-    returns)
