@@ -1,4 +1,6 @@
 // Bit allocation of one channel, ETSI TS 102 366 V1.4.1 ("TS") 6.2.2: from its exponents and side information to the pointers of its bins.
+#![tactic(auto)]
+
 ghost use Rattle.std.specs.Prelude.{◌≡◌, ◌+◌, ◌-◌, ◌<◌, ◌≤◌, ◌*◌, ◌/◌, min, max, length, get_or, true, not, ◌&&◌, ltb, eqb, pos, nat_abs, ◌-ℤ◌};
 ghost use Rattle.std.specs.Int.Signed.{le_z, shr_z};
 ghost use Rattle.refusal.specs.Refusals.{number_of, grounds, refused as refused_of};
@@ -17,7 +19,7 @@ use refusal::{Refusal, Why};
 use tables::{Band, Bin, Coded, Delta, Pointers};
 
 // The side information of a channel by its names in TS, not yet decoded.
-#[derive(Drop)]
+#[derive(Clone, Copy)]
 pub struct Codes {
     pub sdcycod: u8,
     pub fdcycod: u8,
@@ -31,21 +33,21 @@ pub struct Codes {
 }
 
 // The leaks that the coupling channel begins with, cplfleak and cplsleak, not yet decoded. None is 0, 0.
-#[derive(Drop)]
+#[derive(Clone, Copy)]
 pub enum Leak {
     None,
     Codes(u8, u8),
 }
 
 // How a call ended that answers no value.
-#[derive(Drop)]
+#[derive(Clone, Copy)]
 pub enum Ended {
     Done,
     Refused(Refusal),
 }
 
 // The decays and gains of a channel.
-#[derive(Drop)]
+#[derive(Clone, Copy)]
 struct Curve {
     sdecay: i32,
     fdecay: i32,
@@ -54,7 +56,7 @@ struct Curve {
 }
 
 // The decays and gains, or that a code is past its table.
-#[derive(Drop)]
+#[derive(Clone, Copy)]
 enum Curved {
     Of(Curve),
     Past,
@@ -90,7 +92,7 @@ fn curve_of(codes: Codes) -> Curved
 }
 
 // The knee, the floor, the SNR offset, and the row of HEARING.
-#[derive(Drop)]
+#[derive(Clone, Copy)]
 struct Levels {
     knee: i32,
     floor: i32,
@@ -99,7 +101,7 @@ struct Levels {
 }
 
 // The levels, or that a code is past its table.
-#[derive(Drop)]
+#[derive(Clone, Copy)]
 enum Leveled {
     Of(Levels),
     Past,
@@ -135,7 +137,7 @@ fn levels_of(codes: Codes) -> Leveled
 }
 
 // What goes from a band to the next: the two leaks, the low-frequency compensation, the band's excitation, and whether the leaks decay yet.
-#[derive(Drop)]
+#[derive(Clone, Copy)]
 struct Carried {
     fast: i32,
     slow: i32,
@@ -145,7 +147,7 @@ struct Carried {
 }
 
 // What the first band begins with, or that a code is past its table.
-#[derive(Drop)]
+#[derive(Clone, Copy)]
 enum Begun {
     Of(Carried),
     Past,

@@ -1,0 +1,32 @@
+-- `alloc::step_high` meets its contract: both leaks decay.
+-- Assumes nothing.
+use mathlib.Core.Path.{◌≡◌}
+use mir.Syntax.{w32}
+use mir.Val.{SFits}
+use mir.Facts.{to_z-of_z}
+use Rattle.alloc.specs.Excite.{step_high, decayed}
+use Rattle.tables.proofs.Signed.{within_fits}
+use Rattle.alloc.proofs.step_high.Goals as goal
+
+pub returns : goal.returns
+unfolding step_high
+returns c =
+    let fast-is : (c.decay_to-fast.result ≡ decayed c.args.s.fast c.args.c.fdecay c.args.p c.args.c.fgain) = let t = c.requires.1 in
+    let k = c.requires.2 in
+    let f = within_fits 131072 131072 k.fast tt tt in
+    let p = c.ranges.p in
+    let d = within_fits 0 2048 t.fd tt tt in
+    let g = within_fits 0 2048 t.fg tt tt in
+    simp to_z-of_z at c.decay_to-fast.ensures in
+    let slow-is : (c.decay_to-slow.result ≡ decayed c.args.s.slow c.args.c.sdecay c.args.p c.args.c.sgain) = let t = c.requires.1 in
+    let k = c.requires.2 in
+    let f = within_fits 131072 131072 k.slow tt tt in
+    let p = c.ranges.p in
+    let d = within_fits 0 2048 t.sd tt tt in
+    let g = within_fits 0 2048 t.sg tt tt in
+    simp to_z-of_z at c.decay_to-slow.ensures in
+    let l = within_fits 0 384 c.requires.2.low tt tt in
+    let a : SFits w32 c.decay_to-fast.result = record { sfits = c.decay_to-fast.type_inv } in
+    let b : SFits w32 c.decay_to-slow.result = record { sfits = c.decay_to-slow.type_inv } in
+    let m : SFits w32 c.larger-out.result = record { sfits = c.larger-out.type_inv } in
+    simp to_z-of_z (rw (simp to_z-of_z at c.larger-out.ensures, fast-is, slow-is))
