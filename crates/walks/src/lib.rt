@@ -1,4 +1,6 @@
 // Mantissa walks (TS 6.3.5): how far the mantissas of a channel reach, from their codes alone.
+#![tactic(auto)]
+
 ghost use Rattle.std.specs.Prelude.{◌≡◌, ◌≤◌, ◌<◌, length};
 ghost use Rattle.std.proofs.Math.Seq.{slice};
 ghost use Rattle.refusal.specs.Refusals.{number_of};
@@ -12,7 +14,7 @@ use syntax::{Place, is_unsound, passes};
 use tables::Bin;
 
 // How many members the open groups of codes 1, 2 and 4 have. All channels of a block share them.
-#[derive(Drop)]
+#[derive(Clone, Copy)]
 pub struct Groups {
     pub g1: u8,
     pub g2: u8,
@@ -20,7 +22,7 @@ pub struct Groups {
 }
 
 // What a walk answers, and the place and the groups after it, taken or refused.
-#[derive(Drop)]
+#[derive(Clone, Copy)]
 pub struct Walked {
     pub answer: Put,
     pub place: Place,
@@ -28,7 +30,7 @@ pub struct Walked {
 }
 
 // What a mantissa costs, and the groups with it counted.
-#[derive(Drop)]
+#[derive(Clone, Copy)]
 struct Counted {
     cost: u8,
     groups: Groups,
