@@ -1,6 +1,8 @@
 // The AHT walk of one channel (TS E.2.4.2, E.2.4.4): gaqmod, the gain words, and the mantissas of all six blocks, bin by bin.
 //
 // Each step takes the walk so far and leaves it as it is where it is refused.
+#![tactic(auto)]
+
 ghost use Rattle.std.specs.Prelude.{◌≡◌, false, cond, List, ℕ, ◌+◌, ◌-◌, ◌*◌, ◌^◌, ◌≤◌, ◌<◌, eqb, ltb, length};
 ghost use Rattle.std.proofs.Math.Seq.{slice};
 ghost use Rattle.refusal.specs.Refusals.{number_of};
@@ -17,21 +19,21 @@ use tables::Bin;
 use walks::is_unfit_range;
 
 // How an AHT walk ends: the tags of large mantissas that it met, or a refusal.
-#[derive(Drop)]
+#[derive(Clone, Copy)]
 pub enum Counted {
     Tags(usize),
     Refused(Refusal),
 }
 
 // What an AHT walk answers, and the place after it, taken or refused.
-#[derive(Drop)]
+#[derive(Clone, Copy)]
 pub struct AhtWalked {
     pub answer: Counted,
     pub place: Place,
 }
 
 // Whether a walk goes on.
-#[derive(Drop)]
+#[derive(Clone, Copy)]
 enum Course {
     On,
     Stopped(Why),
@@ -39,7 +41,7 @@ enum Course {
 
 // A walk so far: its bit, how many bits before it were read last, the tags that it met, and whether it goes on. What was read last is
 // looked at only where it counts: of most mantissas nothing but the width is used.
-#[derive(Drop)]
+#[derive(Clone, Copy)]
 struct Tally {
     pos: usize,
     last: usize,
