@@ -1,4 +1,6 @@
 // Exponents of one channel (TS 6.1.3): the absolute exponent and its groups are read, logged and unpacked.
+#![tactic(auto)]
+
 ghost use Rattle.std.specs.Prelude.{◌≡◌, false, List, ℕ, ◌+◌, ◌≤◌, ◌<◌, set, replicate};
 ghost use Rattle.std.proofs.lemmas.List.Edits.{sets};
 ghost use Rattle.refusal.specs.Refusals.{number_of, grounds, refused, taken, ends, then_run};
@@ -21,7 +23,7 @@ const CPL: u8 = tables::CPL as u8;
 const LFE: u8 = tables::LFE as u8;
 
 // The exponents of a slot, and the range of bins that they were read for.
-#[derive(Drop)]
+#[derive(Clone, Copy)]
 pub struct ExpSet {
     pub exp: [u8; 256],
     pub start: usize,
@@ -29,7 +31,7 @@ pub struct ExpSet {
 }
 
 // What reading a set answers, and the place and the set after it, taken or refused.
-#[derive(Drop)]
+#[derive(Clone, Copy)]
 pub struct Exponents {
     pub answer: Put,
     pub place: Place,
@@ -37,7 +39,7 @@ pub struct Exponents {
 }
 
 // A reading under way: the reader, the last result, and the bin of the next.
-#[derive(Drop)]
+#[derive(Clone, Copy)]
 struct Run {
     reader: Reader,
     last: u8,
