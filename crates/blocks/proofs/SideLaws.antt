@@ -18,7 +18,7 @@ use Rattle.bits.specs.Answers.{done_of}
 use Rattle.tables.specs.declared.Delta.{Delta}
 use Rattle.syntax.specs.declared.Ask.{Ask}
 use Rattle.syntax.specs.declared.Reader.{Reader}
-use Rattle.syntax.specs.Reads.{Standing, standing, seen_of, reader_of, shown, read_of, next_of}
+use Rattle.syntax.specs.Reads.{Standing, seen_of, reader_of, shown, read_of, next_of}
 use Rattle.syntax.proofs.Ends.{next_is, next_on}
 use Rattle.syntax.proofs.ReadLaws.{next_taken}
 use Rattle.blocks.specs.declared.AllocState.{AllocState}

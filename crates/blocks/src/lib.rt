@@ -1,5 +1,7 @@
 // Side information and block allocation (TS 6.2.2; document 01, "Allocation"): what the blocks of a frame carry on, and the pointers of all
 // slots of a block.
+#![tactic(auto)]
+
 ghost use Rattle.std.specs.Prelude.{◌≡◌, List, [], ℕ, ◌<◌, ◌≤◌, ◌+◌, Bool, not, ◌||◌, eqb};
 ghost use Rattle.bits.specs.Answers.{done_of};
 ghost use Rattle.refusal.specs.Refusals.{number_of, grounds, taken, refused as refused_of, and_then, leaves, then_run};
@@ -19,7 +21,7 @@ use tables::{Bin, CPL, Delta, LFE, SLOTS};
 
 // The side information that a frame's blocks carry on, by its names in TS, not yet decoded. Beside what may be unsent stands whether it
 // was sent: the five parameters, csnroffst, and the coupling leak. The segments are those of each slot.
-#[derive(Drop)]
+#[derive(Clone, Copy)]
 pub struct AllocState {
     pub bai_sent: bool,
     pub sdcycod: u8,
@@ -407,14 +409,14 @@ pub fn allocate_block(
 }
 
 // What a delta code or a reading of segments comes to, and the slot's segments after it.
-#[derive(Drop)]
+#[derive(Clone, Copy)]
 pub struct DeltaTold {
     pub answer: Put,
     pub delta: Delta,
 }
 
 // What reading a slot's segments answers, and the place and the segments after it.
-#[derive(Drop)]
+#[derive(Clone, Copy)]
 pub struct DeltaRead {
     pub answer: Put,
     pub place: Place,
@@ -422,7 +424,7 @@ pub struct DeltaRead {
 }
 
 // A reader, and the segments that it has read so far.
-#[derive(Drop)]
+#[derive(Clone, Copy)]
 struct SoFar {
     reader: Reader,
     delta: Delta,
