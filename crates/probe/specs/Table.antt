@@ -3,7 +3,7 @@
 use Rattle.std.specs.Prelude.{ℕ, zero, suc, List, [], ◌∷◌, ◌++◌, ◌≡◌}
 use Rattle.probe.specs.Probe.{words_of}
 
--- for each frmsizecod from 0 to 37 three numbers: fscod 0 (48 k_hz), 1 (44.1 k_hz), 2 (32 k_hz)
+-- for each frmsizecod from 0 to 37 three numbers: fscod 0 (48 kHz), 1 (44.1 kHz), 2 (32 kHz)
 abbrev pub printed : List ℕ
 printed =
     64 ∷ 69 ∷ 96 ∷

@@ -1,4 +1,6 @@
 // Frame recognition: which syntax a frame has, and how long it is, from its first six bytes.
+#![tactic(auto)]
+
 ghost use Rattle.std.specs.Prelude.{◌≡◌, ◌+◌, ◌≤◌, ◌<◌, length};
 ghost use Rattle.refusal.specs.Refusals.{number_of, grounds, refused};
 ghost use Rattle.bits.specs.Bits.{bits_at};
@@ -8,7 +10,7 @@ use bits::Got;
 use refusal::{Refusal, Why};
 
 // The two syntaxes.
-#[derive(Drop)]
+#[derive(Clone, Copy)]
 pub enum Codec {
     // bsid 0 to 8 (TS clause 4).
     Ac3,
@@ -17,14 +19,14 @@ pub enum Codec {
 }
 
 // What a frame's first bytes say: its syntax, and its length in bytes.
-#[derive(Drop)]
+#[derive(Clone, Copy)]
 pub struct Header {
     pub codec: Codec,
     pub bytes: usize,
 }
 
 // What probing answers.
-#[derive(Drop)]
+#[derive(Clone, Copy)]
 pub enum Probed {
     Is(Header),
     Refused(Refusal),
