@@ -1,4 +1,6 @@
 // CRC status and repair of a frame (TS 102 366, 6.10.1 and 4.4.5.1).
+#![tactic(auto)]
+
 ghost use Rattle.std.specs.Prelude.{◌≡◌, ℕ, suc, ◌+◌, ◌-◌, ◌*◌, ◌≤◌, ◌<◌, ◌^◌, length};
 ghost use Rattle.refusal.specs.Refusals.{grounds_of, grounds, taken};
 ghost use Rattle.bits.specs.Answers.{put_of};
@@ -11,7 +13,7 @@ use probe::Codec;
 use refusal::{Refusal, Why};
 
 // Whether the checksums are good: crc1 and crc2 of an AC-3 frame, or crc2 of an E-AC-3 frame, which has no crc1.
-#[derive(Drop)]
+#[derive(Clone, Copy)]
 pub enum Status {
     Both(bool, bool),
     Second(bool),
@@ -22,7 +24,7 @@ pub enum Status {
 const POLY: u16 = 0x8005;
 
 // A number cleared from its top bit down: what is left of it, the units by whose images it was cleared, and the bit it stopped at.
-#[derive(Drop)]
+#[derive(Clone, Copy)]
 struct Reduced {
     left: u16,
     comb: u16,
@@ -30,14 +32,14 @@ struct Reduced {
 }
 
 // A place for each leading bit: a number that leads with that bit, 0 where there is none yet, and the units whose images make it.
-#[derive(Drop)]
+#[derive(Clone, Copy)]
 struct Basis {
     vals: [u16; 16],
     combs: [u16; 16],
 }
 
 // The two checksums that an AC-3 frame should have, crc2 before it is kept from being the sync word.
-#[derive(Drop)]
+#[derive(Clone, Copy)]
 struct Sums {
     crc1: u16,
     crc2: u16,
