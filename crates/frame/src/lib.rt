@@ -1,5 +1,7 @@
 // The tail of a frame (TS 4.3.4, 4.3.5, E.1.2.5, E.1.2.6): auxbits, auxdatal, auxdatae, the reserved bit and crc2 are read and logged, and
 // then the elements of the whole frame must tile it.
+#![tactic(auto)]
+
 ghost use Rattle.std.specs.Prelude.{◌≡◌, true, ◌+◌, ◌*◌, ◌≤◌, ltb, length};
 ghost use Rattle.refusal.specs.Refusals.{number_of, grounds, refused, then_run};
 ghost use Rattle.bits.specs.Bits.{bits_at};
@@ -23,14 +25,14 @@ const LAST: usize = 18;
 const AUXDATAL: usize = 14;
 
 // A stretch of bits: where it starts, and how many it has.
-#[derive(Drop)]
+#[derive(Clone, Copy)]
 pub struct Stretch {
     pub start: usize,
     pub width: usize,
 }
 
 // What reading a tail answers.
-#[derive(Drop)]
+#[derive(Clone, Copy)]
 pub enum Tail {
     // The bits of auxbits that are the user's; the rest is padding.
     UserBits(Stretch),
@@ -38,7 +40,7 @@ pub enum Tail {
 }
 
 // The same, with the place after it, taken or refused.
-#[derive(Drop)]
+#[derive(Clone, Copy)]
 pub struct Tailed {
     pub answer: Tail,
     pub place: Place,
