@@ -2,6 +2,8 @@
 //
 // A function answers 0 where the call is taken, or the refusal's number. Values and the refusal's bit go into room that the
 // caller lends; a value is 0 where the call is refused, and the bit is 0 where it is taken.
+#![tactic(auto)]
+
 ghost use Rattle.std.specs.Prelude.{◌≡◌, false};
 ghost use Rattle.refusal.specs.Refusals.{grounds, grounds_of};
 ghost use Rattle.bits.specs.Answers.{got_of, done_of, judged_of};
