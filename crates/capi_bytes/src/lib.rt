@@ -1,5 +1,7 @@
 // The core for C and Rust, as far as it needs no cursor: bits, CRC-16, and a frame's header and checksums. Thin functions over
 // the crates' public ones; `convention` has what a caller is told.
+#![tactic(auto)]
+
 ghost use Rattle.std.specs.Prelude.{◌≡◌, false, replicate};
 ghost use Rattle.bits.specs.Answers.{get_of, set_of, range_eq_of, range_zero_of};
 ghost use Rattle.crc.specs.Crc.{crc_of};
@@ -14,36 +16,21 @@ use probe::Probed;
 use repair::Status;
 
 // bits::get.
-#[unsafe(no_mangle)]
-pub extern "C" fn zela_bits_get(
-    bytes: &[u8],
-    pos: usize,
-    n: usize,
-    value: &mut u32,
-    bit: &mut usize,
-) -> u8
+pub fn zela_bits_get(bytes: &[u8], pos: usize, n: usize, value: &mut u32, bit: &mut usize) -> u8
     ensures { reply result value.new bit.new ≡ reply_of 0 (get_of bytes.now pos n) }
 {
     got(bits::get(bytes, pos, n), value, bit)
 }
 
 // bits::set.
-#[unsafe(no_mangle)]
-pub extern "C" fn zela_bits_set(
-    bytes: &mut [u8],
-    pos: usize,
-    n: usize,
-    value: u32,
-    bit: &mut usize,
-) -> u8
+pub fn zela_bits_set(bytes: &mut [u8], pos: usize, n: usize, value: u32, bit: &mut usize) -> u8
     ensures { running result bit.new bytes.new ≡ running_of (set_of bytes.old pos n value) }
 {
     done(bits::set(bytes, pos, n, value), bit)
 }
 
 // bits::range_eq.
-#[unsafe(no_mangle)]
-pub extern "C" fn zela_bits_range_eq(
+pub fn zela_bits_range_eq(
     x: &[u8],
     a: usize,
     y: &[u8],
@@ -58,22 +45,14 @@ pub extern "C" fn zela_bits_range_eq(
 }
 
 // bits::range_zero.
-#[unsafe(no_mangle)]
-pub extern "C" fn zela_bits_range_zero(
-    x: &[u8],
-    a: usize,
-    n: usize,
-    is: &mut bool,
-    bit: &mut usize,
-) -> u8
+pub fn zela_bits_range_zero(x: &[u8], a: usize, n: usize, is: &mut bool, bit: &mut usize) -> u8
     ensures { reply result is.new bit.new ≡ reply_of false (range_zero_of x.now a n) }
 {
     judged(bits::range_zero(x, a, n), is, bit)
 }
 
 // crc::crc16.
-#[unsafe(no_mangle)]
-pub extern "C" fn zela_crc16(init: u16, bytes: &[u8], value: &mut u16) -> u8
+pub fn zela_crc16(init: u16, bytes: &[u8], value: &mut u16) -> u8
     ensures { (result ≡ 0) × (value.new ≡ crc_of init bytes.now) }
 {
     *value = crc::crc16(init, bytes);
@@ -81,8 +60,7 @@ pub extern "C" fn zela_crc16(init: u16, bytes: &[u8], value: &mut u16) -> u8
 }
 
 // crc::zeros.
-#[unsafe(no_mangle)]
-pub extern "C" fn zela_crc16_zeros(init: u16, n: usize, value: &mut u16) -> u8
+pub fn zela_crc16_zeros(init: u16, n: usize, value: &mut u16) -> u8
     ensures { (result ≡ 0) × (value.new ≡ crc_of init (replicate n 0)) }
 {
     *value = crc::zeros(init, n);
@@ -90,13 +68,7 @@ pub extern "C" fn zela_crc16_zeros(init: u16, n: usize, value: &mut u16) -> u8
 }
 
 // probe::probe.
-#[unsafe(no_mangle)]
-pub extern "C" fn zela_probe(
-    frame: &[u8],
-    eac3: &mut bool,
-    bytes: &mut usize,
-    bit: &mut usize,
-) -> u8
+pub fn zela_probe(frame: &[u8], eac3: &mut bool, bytes: &mut usize, bit: &mut usize) -> u8
     ensures { reply result (opening eac3.new bytes.new) bit.new ≡ reply_of (opening false 0) (opening_of (probe_of frame.now)) }
 {
     match probe::probe(frame) {
@@ -116,8 +88,7 @@ pub extern "C" fn zela_probe(
 }
 
 // repair::crc_status. E-AC-3 has no crc1.
-#[unsafe(no_mangle)]
-pub extern "C" fn zela_crc_status(
+pub fn zela_crc_status(
     frame: &[u8],
     eac3: bool,
     crc1: &mut bool,
@@ -148,8 +119,7 @@ pub extern "C" fn zela_crc_status(
 }
 
 // repair::repair.
-#[unsafe(no_mangle)]
-pub extern "C" fn zela_repair(frame: &mut [u8], eac3: bool, bit: &mut usize) -> u8
+pub fn zela_repair(frame: &mut [u8], eac3: bool, bit: &mut usize) -> u8
     ensures { running result bit.new frame.new ≡ running_of (repair_of (codec_from eac3) frame.old) }
 {
     done(repair::repair(codec_from(eac3), frame), bit)
