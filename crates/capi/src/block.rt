@@ -8,8 +8,7 @@ use crate::state::state_from;
 use convention::done;
 
 // blocks::allocate_block.
-#[unsafe(no_mangle)]
-pub extern "C" fn zela_allocate_block(
+pub fn zela_allocate_block(
     state: &[[u8; 25]; 8],
     fscod: u8,
     present: &[bool; 7],

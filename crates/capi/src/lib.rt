@@ -1,6 +1,8 @@
 // The core for C and Rust, as far as it reads by a cursor or allocates: thin functions over the crates' public ones. `convention`
 // has what a caller is told; a function that never refuses has no room for a bit. include/zelamodurk.h says the same for each
 // function in C's terms.
+#![tactic(auto)]
+
 pub mod block;
 pub mod mantissas;
 pub mod sets;
@@ -23,8 +25,7 @@ use syntax::{Ask, Found, Place};
 use tables::{Bin, Delta};
 
 // syntax::is_drc, of the role of a word.
-#[unsafe(no_mangle)]
-pub extern "C" fn zela_role_is_drc(role: u32, is: &mut bool) -> u8
+pub fn zela_role_is_drc(role: u32, is: &mut bool) -> u8
     ensures { (result ≡ 0) × (is.new ≡ is_drc (role_of role)) }
 {
     *is = syntax::is_drc(syntax::role_of(role));
@@ -32,8 +33,7 @@ pub extern "C" fn zela_role_is_drc(role: u32, is: &mut bool) -> u8
 }
 
 // syntax::is_checksum, of the role of a word.
-#[unsafe(no_mangle)]
-pub extern "C" fn zela_role_is_checksum(role: u32, is: &mut bool) -> u8
+pub fn zela_role_is_checksum(role: u32, is: &mut bool) -> u8
     ensures { (result ≡ 0) × (is.new ≡ is_checksum (role_of role)) }
 {
     *is = syntax::is_checksum(syntax::role_of(role));
@@ -41,8 +41,7 @@ pub extern "C" fn zela_role_is_checksum(role: u32, is: &mut bool) -> u8
 }
 
 // syntax::is_span, of the role of a word.
-#[unsafe(no_mangle)]
-pub extern "C" fn zela_role_is_span(role: u32, is: &mut bool) -> u8
+pub fn zela_role_is_span(role: u32, is: &mut bool) -> u8
     ensures { (result ≡ 0) × (is.new ≡ is_span (role_of role)) }
 {
     *is = syntax::is_span(syntax::role_of(role));
@@ -74,8 +73,7 @@ fn ask_of(name: u32, role: u32, index: i16, width: usize) -> Ask
 }
 
 // syntax::read_element.
-#[unsafe(no_mangle)]
-pub extern "C" fn zela_read_element(
+pub fn zela_read_element(
     frame: &[u8],
     log: &mut [u32],
     pos: &mut usize,
@@ -101,8 +99,7 @@ pub extern "C" fn zela_read_element(
 }
 
 // syntax::read_raw. It looks at no block and no count.
-#[unsafe(no_mangle)]
-pub extern "C" fn zela_read_raw(
+pub fn zela_read_raw(
     frame: &[u8],
     pos: &mut usize,
     limit: usize,
@@ -120,8 +117,7 @@ pub extern "C" fn zela_read_raw(
 }
 
 // syntax::span.
-#[unsafe(no_mangle)]
-pub extern "C" fn zela_span(
+pub fn zela_span(
     frame: &[u8],
     log: &mut [u32],
     pos: &mut usize,
@@ -144,8 +140,7 @@ pub extern "C" fn zela_span(
 }
 
 // syntax::close_span.
-#[unsafe(no_mangle)]
-pub extern "C" fn zela_close_span(
+pub fn zela_close_span(
     frame: &[u8],
     log: &mut [u32],
     pos: usize,
@@ -167,8 +162,7 @@ pub extern "C" fn zela_close_span(
 }
 
 // syntax::check_tiling.
-#[unsafe(no_mangle)]
-pub extern "C" fn zela_check_tiling(log: &[u32], count: usize, total: usize, bit: &mut usize) -> u8
+pub fn zela_check_tiling(log: &[u32], count: usize, total: usize, bit: &mut usize) -> u8
     ensures { told result bit.new ≡ told_of (tiling_of log.now count total) }
 {
     done(syntax::check_tiling(log, count, total), bit)
@@ -196,8 +190,7 @@ fn no_fields(
 }
 
 // syntax::element_at, field by field.
-#[unsafe(no_mangle)]
-pub extern "C" fn zela_element_at(
+pub fn zela_element_at(
     log: &[u32],
     count: usize,
     k: usize,
@@ -287,8 +280,7 @@ fn delta_from(segments: u8, offset: &[u8; 8], length: &[u8; 8], ba: &[u8; 8]) ->
 }
 
 // alloc::allocate.
-#[unsafe(no_mangle)]
-pub extern "C" fn zela_allocate(
+pub fn zela_allocate(
     exponents: &[u8; 256],
     start: usize,
     end: usize,

@@ -20,8 +20,7 @@ fn groups_of(g1: u8, g2: u8, g4: u8) -> Groups
 }
 
 // walks::conventional.
-#[unsafe(no_mangle)]
-pub extern "C" fn zela_conventional(
+pub fn zela_conventional(
     frame: &[u8],
     pos: &mut usize,
     limit: usize,
@@ -64,8 +63,7 @@ fn counted(answer: Counted, tags: &mut usize, bit: &mut usize) -> u8
 }
 
 // aht::aht.
-#[unsafe(no_mangle)]
-pub extern "C" fn zela_aht(
+pub fn zela_aht(
     frame: &[u8],
     pos: &mut usize,
     limit: usize,

@@ -10,8 +10,7 @@ use convention::done;
 use tables::Bin;
 
 // exponents::read_exponents.
-#[unsafe(no_mangle)]
-pub extern "C" fn zela_read_exponents(
+pub fn zela_read_exponents(
     frame: &[u8],
     log: &mut [u32],
     pos: &mut usize,

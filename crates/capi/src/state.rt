@@ -154,8 +154,7 @@ fn put_segments(rows: &mut [[u8; 25]; 8], slot: usize, delta: Delta)
 }
 
 // blocks::delta_code.
-#[unsafe(no_mangle)]
-pub extern "C" fn zela_delta_code(
+pub fn zela_delta_code(
     state: &mut [[u8; 25]; 8],
     slot: usize,
     code: u32,
@@ -173,8 +172,7 @@ pub extern "C" fn zela_delta_code(
 }
 
 // blocks::read_delta.
-#[unsafe(no_mangle)]
-pub extern "C" fn zela_read_delta(
+pub fn zela_read_delta(
     frame: &[u8],
     log: &mut [u32],
     pos: &mut usize,

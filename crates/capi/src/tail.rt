@@ -31,8 +31,7 @@ fn user_stretch(answer: Tail, start: &mut usize, width: &mut usize, bit: &mut us
 }
 
 // frame::read_tail.
-#[unsafe(no_mangle)]
-pub extern "C" fn zela_read_tail(
+pub fn zela_read_tail(
     frame: &[u8],
     log: &mut [u32],
     pos: &mut usize,

@@ -4,14 +4,10 @@ use mathlib.Core.Path.{◌≡◌, refl}
 use native.Mathlib.Omega.{arith}
 use lib.ListN.{length}
 use Rattle.capi.proofs.Rows.{each_long}
-use Rattle.capi.proofs.state.lacks_row.Statement.{statement}
-use Rattle.capi.proofs.state.lacks_row.Tie as tie
+use Rattle.capi.proofs.state.lacks_row.Goals as goal
 
-returns : tie.Need-returns
+pub returns : goal.returns
 returns c =
-    let g = c.well-formed.0.1 in
+    let g = c.well_formed.0.1 in
     let eight : length c.args.rows ≡ 8 = g.0.1 in
     (refl, (eight, λ i h. each_long 25 c.args.rows _ g.1 i (omega (arith, h, eight))))
-
-pub lacks-row-spec : {M : Type 1} → statement M
-lacks-row-spec = tie.close (tie.spec returns)
