@@ -2,47 +2,49 @@
 //
 // Any bytes may be handed in. What is left of a line, a `Rest`, goes from reader to reader by value. Once a field cannot be
 // read, no later one can, so a caller reads all its fields in a row and tests the last rest alone.
+#![tactic(auto)]
+
 ghost use Rattle.std.specs.Prelude.{◌≡◌, ◌+◌, ◌≤◌, max, false, length, drop};
 ghost use Rattle.text.specs.Text.{Counts, ahead, after_digit, decimal_of, nibble_of, pair_of, pairs_of, is_dash, bytes_of, word_from, next_as, and_then};
 ghost use Rattle.text.specs.Meaning.{read_of, taken_of, rest_of, word_of, number_of, bytes_in};
 
 // What is left of a line: from `at` on, if all before it could be read.
-#[derive(Drop)]
+#[derive(Clone, Copy)]
 pub struct Rest {
     pub at: usize,
     pub good: bool,
 }
 
 // A word of a line: from `from` up to `rest.at`, not including it.
-#[derive(Drop)]
+#[derive(Clone, Copy)]
 pub struct Word {
     pub from: usize,
     pub rest: Rest,
 }
 
 // A number, 0 where it could not be read, and what is left after it.
-#[derive(Drop)]
+#[derive(Clone, Copy)]
 pub struct Number {
     pub value: u64,
     pub rest: Rest,
 }
 
 // How many bytes were put at the start of the lent room, 0 where they could not be read, and what is left after them.
-#[derive(Drop)]
+#[derive(Clone, Copy)]
 pub struct Bytes {
     pub count: usize,
     pub rest: Rest,
 }
 
 // What a word says as a number.
-#[derive(Drop)]
+#[derive(Clone, Copy)]
 pub enum Value {
     Is(u64),
     Not,
 }
 
 // How many bytes a word put at the start of the lent room, 0 where it could not be read.
-#[derive(Drop)]
+#[derive(Clone, Copy)]
 pub struct Taken {
     pub count: usize,
     pub good: bool,
