@@ -1,0 +1,29 @@
+// The tail of a frame.
+ghost use Rattle.std.specs.Prelude.{◌≡◌};
+ghost use Rattle.syntax.specs.Reads.{standing};
+ghost use Rattle.frame.specs.Tail.{tail_of};
+ghost use Rattle.convention.specs.Codecs.{codec_from};
+ghost use Rattle.capi.specs.Standings.{place_of};
+ghost use Rattle.capi.specs.Tails.{stretch, closed, closed_of};
+
+// capi::tail::zela_read_tail.
+#[unsafe(no_mangle)]
+pub extern "C" fn zela_read_tail(
+    frame: &[u8],
+    log: &mut [u32],
+    pos: &mut usize,
+    limit: usize,
+    block: &mut i8,
+    count: &mut usize,
+    total: usize,
+    eac3: bool,
+    user_start: &mut usize,
+    user_bits: &mut usize,
+    bit: &mut usize,
+) -> u8
+    ensures { closed result (stretch user_start.new user_bits.new) bit.new pos.new block.new count.new log.new ≡ closed_of (tail_of frame.now (standing (place_of pos.old limit block.old count.old) log.old) total (codec_from eac3)) }
+{
+    capi::tail::zela_read_tail(
+        frame, log, pos, limit, block, count, total, eac3, user_start, user_bits, bit,
+    )
+}
