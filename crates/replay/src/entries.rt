@@ -18,7 +18,7 @@ use text::Rest;
 const BYTES: usize = 2304;
 
 // What stands before or after the `=`: how many bytes and words, and what is left of the line after the numbers.
-#[derive(Drop)]
+#[derive(Clone, Copy)]
 struct Side {
     first: usize,
     second: usize,
@@ -27,7 +27,7 @@ struct Side {
 }
 
 // Whether a function answers and leaves what an entry records, and what is left of the line after the answer.
-#[derive(Drop)]
+#[derive(Clone, Copy)]
 pub struct Ran {
     pub agrees: bool,
     pub rest: Rest,
@@ -98,7 +98,7 @@ fn next_equals(line: &[u8], rest: Rest) -> Rest {
     let word = text::next_word(line, rest);
     let from = word.from;
     let end = word.rest.at;
-    let good = check::same(&line[from..end], b"=");
+    let good = &line[from..end] == b"=".as_slice();
     Rest { at: end, good }
 }
 
@@ -111,10 +111,10 @@ fn is_left(
     words: &[u32; words::ROOM],
     words_after: &[u32; words::ROOM],
 ) -> bool {
-    if !check::same(first, first_after) {
+    if first != first_after {
         return false;
     }
-    if !check::same(second, second_after) {
+    if second != second_after {
         return false;
     }
     words::same(words, words_after)

@@ -1,5 +1,6 @@
 // A file's lines. Comments begin with `#`, and empty lines are passed over. Any other line is an entry.
 use crate::{entries, functions, names, report, tally};
+use std::io;
 use text::Rest;
 
 // Who decided, in the order of their counts in `tally`.
@@ -9,7 +10,7 @@ const DECIDERS: [u8; 19] = *b"rust panics differs";
 const NOBODY: usize = 3;
 
 // Replays all lines of a file, and tells the first that does not agree.
-pub fn replay_all(name: &[u8], file: &[u8], tally: &mut [u64]) {
+pub fn replay_all(rt: &impl Print, name: &[u8], file: &[u8], tally: &mut [u64]) -> io::Result<()> {
     let mut is_told = false;
     let mut at = 0;
     let mut number: u64 = 0;
@@ -18,25 +19,32 @@ pub fn replay_all(name: &[u8], file: &[u8], tally: &mut [u64]) {
         number += 1;
         let became = replay(&file[at..end], tally);
         tally::count(tally, became);
-        is_told = tell(name, number, became, is_told);
+        is_told = tell(rt, name, number, became, is_told)?;
         at = end + 1;
     }
+    Ok(())
 }
 
 // Tells a line that does not agree, unless one is told already, and answers whether one is now.
-fn tell(name: &[u8], number: u64, became: usize, is_told: bool) -> bool {
+fn tell(
+    rt: &impl Print,
+    name: &[u8],
+    number: u64,
+    became: usize,
+    is_told: bool,
+) -> io::Result<bool> {
     if is_told {
-        return true;
+        return Ok(true);
     }
     if became == tally::DIFFER {
-        report::line(name, number, b": answers differ\n");
-        return true;
+        report::line(rt, name, number, b": answers differ\n")?;
+        return Ok(true);
     }
     if became == tally::UNREAD {
-        report::line(name, number, b": cannot be read\n");
-        return true;
+        report::line(rt, name, number, b": cannot be read\n")?;
+        return Ok(true);
     }
-    false
+    Ok(false)
 }
 
 // Replays a line, and answers what it became.

@@ -6,7 +6,7 @@ pub fn place(list: &[u8], name: &[u8]) -> usize {
     let mut at = 0;
     while at < list.len() {
         let end = text::find(list, at, b' ');
-        if check::same(&list[at..end], name) {
+        if &list[at..end] == name {
             return k;
         }
         k += 1;

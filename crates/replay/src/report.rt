@@ -1,43 +1,43 @@
 // What the program writes.
 use crate::{functions, tally};
-use libc::STDOUT_FILENO;
+use std::io;
 
 // What is wrong with a file.
-pub fn file(name: &[u8], what: &[u8]) {
-    say(name);
-    say(what);
+pub fn file(rt: &impl Print, name: &[u8], what: &[u8]) -> io::Result<()> {
+    rt.write_all(name)?;
+    rt.write_all(what)
 }
 
 // What is wrong with a line of a file.
-pub fn line(name: &[u8], number: u64, what: &[u8]) {
-    say(name);
-    say(b" line ");
-    io::print_decimal(STDOUT_FILENO, number);
-    say(what);
+pub fn line(rt: &impl Print, name: &[u8], number: u64, what: &[u8]) -> io::Result<()> {
+    rt.write_all(name)?;
+    print!(rt; " line {number}")?;
+    rt.write_all(what)
 }
 
 // The entries that agree for each function, then for all.
-pub fn summary(tally: &[u64]) {
-    each(&functions::NAMES, tally);
+pub fn summary(rt: &impl Print, tally: &[u64]) -> io::Result<()> {
+    each(rt, &functions::NAMES, tally)?;
     if is_whole(tally) {
-        agreement(tally);
+        agreement(rt, tally)
     } else {
-        disagreement(tally);
+        disagreement(rt, tally)
     }
 }
 
 // A line for each word of a list: the word, and the count at its place.
-fn each(list: &[u8], tally: &[u64]) {
+fn each(rt: &impl Print, list: &[u8], tally: &[u64]) -> io::Result<()> {
     let mut k = 0;
     let mut at = 0;
     while at < list.len() {
         let end = text::find(list, at, b' ');
-        say(&list[at..end]);
-        say_count(b" ", tally, k);
-        say(b"\n");
+        rt.write_all(&list[at..end])?;
+        let count = tally::counted(tally, k);
+        println!(rt; " {count}")?;
         k += 1;
         at = end + 1;
     }
+    Ok(())
 }
 
 // Whether everything was read and agrees.
@@ -51,30 +51,21 @@ fn is_whole(tally: &[u64]) -> bool {
     tally::counted(tally, tally::UNREAD_FILES) == 0
 }
 
-fn agreement(tally: &[u64]) {
-    say_count(b"all ", tally, tally::AGREE);
-    say_count(b" recorded answers agree, ", tally, tally::PANICS);
-    say_count(
-        b" of them where the Rust panics and ",
-        tally,
-        tally::OTHERWISE,
-    );
-    say(b" where it answers otherwise\n");
+fn agreement(rt: &impl Print, tally: &[u64]) -> io::Result<()> {
+    let agree = tally::counted(tally, tally::AGREE);
+    let panics = tally::counted(tally, tally::PANICS);
+    let otherwise = tally::counted(tally, tally::OTHERWISE);
+    println!(rt;
+        "all {agree} recorded answers agree, {panics} of them where the Rust panics and {otherwise} where it answers otherwise"
+    )
 }
 
-fn disagreement(tally: &[u64]) {
-    say_count(b"", tally, tally::DIFFER);
-    say_count(b" recorded answers differ and ", tally, tally::AGREE);
-    say_count(b" agree; ", tally, tally::UNREAD);
-    say_count(b" lines and ", tally, tally::UNREAD_FILES);
-    say(b" files cannot be read\n");
-}
-
-fn say_count(what: &[u8], tally: &[u64], at: usize) {
-    say(what);
-    io::print_decimal(STDOUT_FILENO, tally::counted(tally, at));
-}
-
-fn say(what: &[u8]) {
-    io::write_all(STDOUT_FILENO, what);
+fn disagreement(rt: &impl Print, tally: &[u64]) -> io::Result<()> {
+    let differ = tally::counted(tally, tally::DIFFER);
+    let agree = tally::counted(tally, tally::AGREE);
+    let lines = tally::counted(tally, tally::UNREAD);
+    let files = tally::counted(tally, tally::UNREAD_FILES);
+    println!(rt;
+        "{differ} recorded answers differ and {agree} agree; {lines} lines and {files} files cannot be read"
+    )
 }

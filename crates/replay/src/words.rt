@@ -10,7 +10,7 @@ pub const ROOM: usize = 256;
 const BYTES: usize = 4 * ROOM;
 
 // How many words were put at the start of the lent room, 0 where they could not be read, and what is left after them.
-#[derive(Drop)]
+#[derive(Clone, Copy)]
 pub struct Words {
     pub count: usize,
     pub rest: Rest,
