@@ -33,12 +33,17 @@ need_kit_and_cargo() {
     return "$lacking"
 }
 
+# What rt makes, in out/ of each crate, is no part of it.
 is_fresh() { # CRATE: whether its archive is there, and nothing that it was made from is newer
-    local archive=$archives/lib$1.a
-    [ -f "$archive" ] && [ -z "$(find crates.txt crates -newer "$archive" -print -quit)" ]
+    local archive=$archives/lib$1.a made_from=() folder
+    for folder in crates/*/{src,specs,proofs}; do
+        [ ! -d "$folder" ] || made_from+=("$folder")
+    done
+    [ -f "$archive" ] && [ -z "$(find crates.txt "${made_from[@]}" -newer "$archive" -print -quit)" ]
 }
 
-# rt tells a crate when it is proved; the functions of the last one, and what it loads, are left out.
+# rt ends what it says of a crate with its name and what came of it; the rest is left out. Of a crate that was proved before, and has
+# not changed, it says nothing.
 prove() { # CRATE WHAT HOW-LONG: proves and compiles it with all below it
     local said
     if is_fresh "$1"; then
@@ -47,28 +52,28 @@ prove() { # CRATE WHAT HOW-LONG: proves and compiles it with all below it
     fi
     say "proving $2, $3"
     said=$(mktemp)
-    if rt staticlib "$1" 2>&1 | tee "$said" | sed -u -n 's/^rt: \([a-z_]* proved\)/  \1/p'; then
-        echo "  $1 proved"
+    if docs/archive "$1" 2>&1 | tee "$said" |
+        sed -u -n -e '/^crate [a-z_]*: /{s/^crate \([a-z_]*\): .*/  \1 proved/;h}' -e '/^logic=proved /{g;p}'; then
         rm "$said"
     else
         tail -n 20 "$said" >&2
         rm "$said"
-        say "rt staticlib $1 failed" >&2
+        say "docs/archive $1 failed" >&2
         return 1
     fi
 }
 
 # The small archive, which is all that the command line links.
-prove_bytes() { prove capi_bytes "what the command line links, 7 crates" "about a minute on two cores"; }
+prove_bytes() { prove capi_bytes "what the command line links, 8 crates" "a few minutes where nothing is kept"; }
 
 # The two archives of the whole core.
 prove_core() {
     if on_x86; then
-        prove_bytes && prove capi "the rest of the core, 9 crates" "about five minutes on two cores"
+        prove_bytes && prove capi "the rest of the core, 10 crates" "longer where nothing is kept"
     elif is_fresh capi_bytes && is_fresh capi; then
         say "proved already: the core, compiled for this processor"
     else
-        say "proving the core and compiling it for this processor, about six minutes on two cores"
+        say "proving the core and compiling it for this processor, a long wait where nothing is kept"
         docs/native "$archives"
     fi
 }

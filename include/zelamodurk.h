@@ -2,8 +2,8 @@
  * Zelamodurk: the proved core that reads AC-3 and E-AC-3 (ETSI TS 102 366 V1.4.1).
  *
  * C99, and C++11. Link libzelamodurk.a, which `./install PREFIX` puts in place. In the project's own folder it is two archives,
- * libcapi.a and libcapi_bytes.a, which `rt staticlib capi` and `rt staticlib capi_bytes` write to target/staticlib/. The second
- * has the functions of bits, crc, probe and repair below, and is enough for those.
+ * libcapi.a and libcapi_bytes.a, which `docs/archive` writes to target/staticlib/. The second has the functions of bits, crc,
+ * probe and repair below, and is enough for those.
  *
  * THE CALLING CONVENTION, the same for every function here
  *

@@ -1,4 +1,4 @@
-//! Builds the archives of the proved core with `rt staticlib`, and links them. On a machine that is not
+//! Builds the archives of the proved core with `rt lib`, and links them. On a machine that is not
 //! x86-64 it makes a program of them for the kit's emulator instead (src/relay.rs). Archives that are
 //! there already, in the folder that `ZELAMODURK_ARCHIVES` names, are linked as they are.
 #![forbid(unsafe_code)]
@@ -8,10 +8,10 @@ use std::fs::{self, File};
 use std::path::{Path, PathBuf};
 use std::process::Command;
 
-/// The exporting crate whose functions are over bytes alone; `rt staticlib` writes `lib` and this name
-/// and `.a`.
+/// The archive whose functions are over bytes alone: `lib` and this name and `.a`. The crate that `rt lib`
+/// makes it of has this name and `_c`.
 const BYTES: &str = "capi_bytes";
-/// The exporting crate of all other functions.
+/// The archive of all other functions.
 const CURSOR: &str = "capi";
 /// The one target that the archives have code for.
 const TARGET: &str = "x86_64-unknown-linux-gnu";
@@ -59,7 +59,7 @@ fn has_cursor() -> bool {
     env::var_os("CARGO_FEATURE_CURSOR").is_some()
 }
 
-/// The exporting crates that this build needs. `rt` proves all that they stand on, so no other is built.
+/// The archives that this build needs. `rt` proves all that they stand on, so no other is built.
 fn crates() -> &'static [&'static str] {
     if has_cursor() {
         &[BYTES, CURSOR]
@@ -106,9 +106,9 @@ fn watch(root: &Path) -> Result<(), String> {
     Ok(())
 }
 
-/// Has `rt` write the archives below the project's target/, and copies them to `out`.
+/// Has `rt` write the archives, each in its crate's folder out/, and copies them to `out`.
 fn archives(root: &Path, out: &Path, crates: &[&str]) -> Result<Vec<PathBuf>, String> {
-    // Builds into several target folders share the project's target/: one at a time. A file system
+    // Builds into several target folders share the crates' folders out/: one at a time. A file system
     // that locks nothing is no reason to fail.
     let turn = File::open(root.join("crates.txt")).map_err(|e| format!("crates.txt: {e}"))?;
     let _ = turn.lock();
@@ -116,16 +116,16 @@ fn archives(root: &Path, out: &Path, crates: &[&str]) -> Result<Vec<PathBuf>, St
     made.collect()
 }
 
-/// One archive, and its copy: a later `rt ci` removes target/, and this build's output must still link
-/// then.
+/// One archive, and its copy: a later `rt ci` removes what is in out/, and this build's output must still
+/// link then.
 fn archive(root: &Path, out: &Path, name: &str) -> Result<PathBuf, String> {
+    let folder = format!("crates/{name}_c");
     run(Command::new("rt")
-        .args(["staticlib", name])
-        .current_dir(root))?;
-    let file = format!("lib{name}.a");
-    let kept = out.join(&file);
-    fs::copy(root.join("target/staticlib").join(&file), &kept)
-        .map_err(|e| format!("rt left no archive at target/staticlib/{file}: {e}"))?;
+        .arg("lib")
+        .current_dir(root.join(&folder)))?;
+    let made = format!("{folder}/out/lib{name}_c.a");
+    let kept = out.join(format!("lib{name}.a"));
+    fs::copy(root.join(&made), &kept).map_err(|e| format!("rt left no archive at {made}: {e}"))?;
     Ok(kept)
 }
 
@@ -163,7 +163,7 @@ impl Kit {
     /// The kit of a machine that emulates x86-64, found beside the guide that `rt doc` names.
     fn for_machine(arch: &str, os: &str) -> Result<Self, String> {
         let guide = run(Command::new("rt").arg("doc"))?;
-        let home = Path::new(guide.trim()).ancestors().nth(2);
+        let home = Path::new(guide.trim()).parent();
         let own = home.unwrap_or(Path::new("")).join("on").join(arch);
         let kit = Kit {
             toolchain: own.join("toolchain"),
@@ -224,7 +224,10 @@ fn run(command: &mut Command) -> Result<String, String> {
 /// The end of what a program said without what went well, each line cut: the prover's errors can run
 /// to thousands of characters.
 fn last_lines(said: &str, count: usize) -> String {
-    let well = |line: &&str| line.ends_with(": proved") || line.starts_with("library ");
+    let well = |line: &&str| {
+        let loads = ["library ", "statements ", "axioms ", "checked "];
+        line.ends_with(": proved") || loads.iter().any(|word| line.starts_with(word))
+    };
     let lines: Vec<&str> = said.lines().filter(|line| !well(line)).collect();
     lines[lines.len().saturating_sub(count)..]
         .iter()

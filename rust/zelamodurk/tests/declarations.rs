@@ -10,13 +10,13 @@ const BOUNDARY: [&str; 3] = [
     include_str!("../src/ffi/slots.rs"),
 ];
 const CORE: [&str; 7] = [
-    include_str!("../../../crates/capi_bytes/src/lib.rt"),
-    include_str!("../../../crates/capi/src/lib.rt"),
-    include_str!("../../../crates/capi/src/block.rt"),
-    include_str!("../../../crates/capi/src/mantissas.rt"),
-    include_str!("../../../crates/capi/src/sets.rt"),
-    include_str!("../../../crates/capi/src/state.rt"),
-    include_str!("../../../crates/capi/src/tail.rt"),
+    include_str!("../../../crates/capi_bytes_c/src/lib.rt"),
+    include_str!("../../../crates/capi_c/src/lib.rt"),
+    include_str!("../../../crates/capi_c/src/block.rt"),
+    include_str!("../../../crates/capi_c/src/mantissas.rt"),
+    include_str!("../../../crates/capi_c/src/sets.rt"),
+    include_str!("../../../crates/capi_c/src/state.rt"),
+    include_str!("../../../crates/capi_c/src/tail.rt"),
 ];
 
 /// The arguments of each function by its name, as `frame: *const u8`; behind the type of an array its length.
