@@ -7,7 +7,7 @@ use std::process::ExitCode;
 
 const USAGE: &str = "\
 usage: differential run      compare the core with the Rust that it was ported from
-       differential record   write the Rust's answers to vectors/";
+       differential record   write the Rust's answers to vectors/ and crates/replay/data/";
 
 fn main() -> ExitCode {
     let words: Vec<String> = std::env::args().skip(1).collect();
@@ -68,9 +68,10 @@ fn write() -> Result<(), String> {
         return Err("record wants a release build: cargo run --release".to_string());
     }
     for (file, text) in vectors::FILES.into_iter().zip(record::texts()?) {
-        let path = vectors::path(file);
-        std::fs::write(&path, &text)
-            .map_err(|e| format!("cannot write {}: {e}", path.display()))?;
+        for path in [vectors::path(file), vectors::copy(file)] {
+            std::fs::write(&path, &text)
+                .map_err(|e| format!("cannot write {}: {e}", path.display()))?;
+        }
         let count = text.lines().filter(|line| !line.starts_with('#')).count();
         println!("vectors/{file}: {count} answers");
     }

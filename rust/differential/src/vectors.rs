@@ -61,8 +61,17 @@ impl Entry {
 
 /// A file of the folder `vectors` at the project's root.
 pub fn path(file: &str) -> PathBuf {
+    root().join("vectors").join(file)
+}
+
+/// Its copy, where the program `replay` reads it.
+pub fn copy(file: &str) -> PathBuf {
+    root().join("crates/replay/data").join(file)
+}
+
+fn root() -> PathBuf {
     let here = PathBuf::from(env!("CARGO_MANIFEST_DIR"));
-    here.join("../../vectors").join(file)
+    here.join("../..")
 }
 
 /// The entries of a file's text.

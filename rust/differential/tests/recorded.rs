@@ -27,6 +27,18 @@ fn every_kind_of_answer_is_recorded() {
     }
 }
 
+#[test]
+fn replay_reads_the_same_answers() {
+    for file in vectors::FILES {
+        let [there, copy] = [vectors::path(file), vectors::copy(file)]
+            .map(|path| std::fs::read_to_string(path).unwrap());
+        assert!(
+            there == copy,
+            "crates/replay/data/{file} is not vectors/{file}"
+        );
+    }
+}
+
 /// In a debug build the Rust panics where the recorded one answers, so this is for release.
 #[cfg(not(debug_assertions))]
 #[test]
