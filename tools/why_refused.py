@@ -103,10 +103,10 @@ def edited(name, changes):
 def own_changes(name, function, changes):
     """Those of the changes that stand in the function, as the ones before them left it, and all that stand in no source file."""
     *modules, last = function.split("/")
-    file = f"src/{'/'.join(modules) or 'lib'}.rt"
-    if not os.path.isfile(f"crates/{name}/{file}"):
-        file = "src/main.rt"
-    body = re.compile(rf"^( *)(?:pub )?(?:extern \"C\" )?fn {re.escape(last)}\b.*?^\1\}}", re.M | re.S)
+    # A method stands in its module's file, below its type's name.
+    paths = ["/".join(modules), "/".join(modules[:-1]) or "lib", "lib", "main"]
+    file = next(it for it in (f"src/{path}.rt" for path in paths) if os.path.isfile(f"crates/{name}/{it}"))
+    body = re.compile(rf"^( *)(?:pub(?:\(\w+\))? )?(?:extern \"C\" )?fn {re.escape(last)}\b.*?^\1\}}", re.M | re.S)
     text, found = read(f"crates/{name}/{file}"), []
     for path, old, new in changes:
         own = body.search(text)

@@ -4,14 +4,11 @@
 -- Assumes nothing.
 use Rattle.std.specs.Prelude.{ℕ, zero, suc, ◌+◌, ◌-◌, ◌*◌, ◌/◌, ◌%◌, ◌^◌, Bool, false, cond, ◌&&◌, ◌||◌, List, [], ◌∷◌, length, get_or, eqb, ltb}
 use Rattle.std.proofs.Math.Seq.{slice}
-use Rattle.refusal.specs.Refusals.{Outcome, taken, refused, grounds, told as told_at, and_then, Ran, then_run}
+use Rattle.refusal.specs.Refusals.{Outcome, taken, refused, grounds, and_then, Ran, then_run}
 use Rattle.bits.specs.Bits.{bits_at}
 use Rattle.syntax.specs.declared.Place.{Place}
 use Rattle.syntax.specs.Reads.{unsound, raw_of}
 use Rattle.walks.specs.Walk.{unfit_range}
-use Rattle.aht.specs.declared.Counted.{Counted}
-use Rattle.aht.specs.declared.Counted.TheVariants as counted
-use Rattle.aht.specs.declared.AhtWalked.{AhtWalked}
 
 -- where a walk stands: the cursor's place, and the tags that it met
 pub record Tallied : Type 0 where
@@ -151,14 +148,6 @@ bins_on frame mode hs r =
 -- after gaqmod was read
 unfoldable pub mode_on : List ℕ → List ℕ → Walk → Walk
 mode_on frame hs r = then_run r (λ mode s. bins_on frame mode hs (going mode s))
-
--- what an answer means, with the place after it
-abbrev pub ended_of : Counted → Outcome ℕ
-ended_of (counted.Tags n) = taken n
-ended_of (counted.Refused r) = told_at r
-
-abbrev pub counted_of : AhtWalked → Ran Place ℕ
-counted_of w = record { outcome = ended_of w.answer; state = w.place }
 
 -- "The walk counts the large-mantissa tags it met": its answer
 abbrev pub told : Walk → Ran Place ℕ

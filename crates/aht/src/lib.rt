@@ -1,170 +1,60 @@
 // The AHT walk of one channel (TS E.2.4.2, E.2.4.4): gaqmod, the gain words, and the mantissas of all six blocks, bin by bin.
 //
-// Each step takes the walk so far and leaves it as it is where it is refused.
+// Each step moves the tally of the walk, and leaves it where it is refused.
 #![tactic(auto)]
 
-ghost use Rattle.std.specs.Prelude.{◌≡◌, false, cond, List, ℕ, ◌+◌, ◌-◌, ◌*◌, ◌^◌, ◌≤◌, ◌<◌, eqb, ltb, length};
-ghost use Rattle.std.proofs.Math.Seq.{slice};
-ghost use Rattle.refusal.specs.Refusals.{number_of};
+ghost use Rattle.std.specs.Prelude.{◌≡◌, cond, ◌+◌, ◌-◌, ◌*◌, ◌^◌, ◌≤◌, ◌<◌, false, length, IfOk};
 ghost use Rattle.bits.specs.Bits.{bits_at};
-ghost use Rattle.syntax.specs.declared.Place.{Place};
-ghost use Rattle.syntax.specs.Reads.{unsound};
-ghost use Rattle.aht.specs.Aht.{passes as passed, read_on, refuse_on, tag_on, gained_on, mantissa_on, times, vector_width, gaq_width, is_active, count_active, sections, composite_on, word_on, bins_on, digit, meant, gain_of, gain_at, bin_on, walk_on, mode_on, told, counted_of, unfit_aht, aht_of};
-ghost use Rattle.aht.specs.Tallies.{place_at, stopped_of, last_of, tally_of, Held, tags_most, small, large, gain_bits};
+ghost use Rattle.syntax.specs.Reads.{unsound, bare_moved_of};
+ghost use Rattle.aht.specs.Aht.{read_on, gained_on, mantissa_on, times, vector_width, gaq_width, is_active, count_active, sections, composite_on, word_on, bins_on, digit, meant, gain_of, gain_at, bin_on, walk_on, mode_on, unfit_aht, aht_of};
 
-use bits::Got;
-use refusal::{Refusal, Why};
-use syntax::{Place, is_unsound, passes};
+use refusal::Why;
+use syntax::{Moved, Place, is_unsound};
 use tables::Bin;
 use walks::is_unfit_range;
 
-// How an AHT walk ends: the tags of large mantissas that it met, or a refusal.
+// What an AHT walk answers: the tags of large mantissas that it met.
+pub type AhtWalked = Moved<usize>;
+
+// What a walk goes over: a frame, and a place in it whose limit lies inside.
 #[derive(Clone, Copy)]
-pub enum Counted {
-    Tags(usize),
-    Refused(Refusal),
+struct Over<'a> {
+    frame: &'a [u8],
+    place: Place,
+    ghost sound: { unsound (length frame.now) place ≡ false },
 }
 
-// What an AHT walk answers, and the place after it, taken or refused.
-#[derive(Clone, Copy)]
-pub struct AhtWalked {
-    pub answer: Counted,
-    pub place: Place,
-}
-
-// Whether a walk goes on.
-#[derive(Clone, Copy)]
-enum Course {
-    On,
-    Stopped(Why),
-}
-
-// A walk so far: its bit, how many bits before it were read last, the tags that it met, and whether it goes on. What was read last is
-// looked at only where it counts: of most mantissas nothing but the width is used.
-#[derive(Clone, Copy)]
+// A walk so far: its bit, how many bits before it were read last, and the tags that it met. What was read last is looked at only where it
+// counts: of most mantissas nothing but the width is used.
+#[derive(Drop)]
 struct Tally {
     pos: usize,
     last: usize,
     tags: usize,
-    course: Course,
+    ghost narrow: { last ≤ 32 },
+    ghost behind: { last ≤ pos },
+    ghost few: { tags ≤ pos },
 }
 
-// The place of a walk at a bit.
-fn stands(place: Place, pos: usize) -> Place
-    ensures { result ≡ place_at place pos }
-{
-    Place {
-        pos,
-        limit: place.limit,
-        block: place.block,
-        count: place.count,
-    }
-}
-
-// The walk ends where it stands.
-fn stopped(why: Why, t: Tally) -> Tally
-    ensures { result ≡ stopped_of why t }
-{
-    Tally {
-        pos: t.pos,
-        last: t.last,
-        tags: t.tags,
-        course: Course::Stopped(why),
-    }
-}
-
-// The same of a walk that may have ended before.
-fn refuse(why: Why, t: Tally) -> Tally
-    ensures { (frame : List ℕ) (place : Place) → tally_of frame place result ≡ refuse_on (number_of why) (tally_of frame place t) }
-{
-    let course = t.course;
-    if let Course::Stopped(_) = course {
-        return t;
-    }
-    stopped(why, t)
-}
-
-// The next n bits.
-fn read(place: Place, n: u8, t: Tally) -> Tally
-    requires { n ≤ 32 }
-    ensures { ((frame : List ℕ) → unsound (length frame) place ≡ false → tally_of frame place result ≡ read_on frame n (tally_of frame place t)) × Held place.limit result }
-{
-    let course = t.course;
-    if let Course::Stopped(_) = course {
-        return t;
-    }
-    let width = n as usize;
-    if passes(stands(place, t.pos), width) {
-        return stopped(Why::PastLimit, t);
-    }
-    Tally {
-        pos: t.pos + width,
-        last: width,
-        tags: t.tags,
-        course: Course::On,
-    }
-}
-
-// One tag more.
-fn tag(t: Tally) -> Tally
-    requires { t.tags < tags_most }
-    ensures { (frame : List ℕ) (place : Place) → tally_of frame place result ≡ tag_on (tally_of frame place t) }
-{
-    let course = t.course;
-    if let Course::Stopped(_) = course {
-        return t;
-    }
-    let tags = t.tags + 1;
-    Tally {
-        pos: t.pos,
-        last: t.last,
-        tags,
-        course: Course::On,
-    }
+// The gains of active bins in order: gaqmod, the bit at which their words begin, and how many bins had one so far.
+// gaqmod, gains and hebaps are numbers, as they are read and lent, and as the definitions have them. How many words lie inside the frame
+// depends on the bins to come, so it is a clause and no invariant.
+#[derive(Drop)]
+struct Gains {
+    mode: u8,
+    base: usize,
+    met: usize,
+    ghost known: { mode < 4 },
+    ghost near: { base ≤ 32768 },
 }
 
 // Bits of a range that lies inside the frame.
+// syntax has the same, private too: a public function has no requires.
 fn peek(frame: &[u8], pos: usize, n: usize) -> u32
     requires { (n ≤ 32) × (pos + n ≤ 8 * length frame.now) }
     ensures { result ≡ bits_at frame.now pos n }
 {
-    match bits::get(frame, pos, n) {
-        Got::Value(v) => v,
-        // Such a range is never refused.
-        Got::Refused(_) => 0,
-    }
-}
-
-// What was read last.
-fn last_read(frame: &[u8], t: Tally) -> u32
-    requires { (t.last ≤ 32) × (t.last ≤ t.pos) × (t.pos ≤ 8 * length frame.now) }
-    ensures { result ≡ bits_at frame.now (t.pos - t.last) t.last }
-{
-    peek(frame, t.pos - t.last, t.last)
-}
-
-// Whether v was read last.
-fn is_value(frame: &[u8], t: Tally, v: u32) -> bool
-    requires { Held (8 * length frame.now) t }
-    ensures { result ≡ passed (λ x. eqb x v) (last_of frame.now t) }
-{
-    let course = t.course;
-    if let Course::Stopped(_) = course {
-        return false;
-    }
-    last_read(frame, t) == v
-}
-
-// Whether more than v was read last.
-fn is_above(frame: &[u8], t: Tally, v: u32) -> bool
-    requires { Held (8 * length frame.now) t }
-    ensures { result ≡ passed (λ x. ltb v x) (last_of frame.now t) }
-{
-    let course = t.course;
-    if let Course::Stopped(_) = course {
-        return false;
-    }
-    v < last_read(frame, t)
+    bits::get(frame, pos, n).unwrap()
 }
 
 // The number of s bits whose top bit is 1 and the rest 0.
@@ -175,91 +65,19 @@ fn top(s: u8) -> u32
     1 << (s - 1)
 }
 
-// A mantissa of s bits, and where it is the tag, the large one of l bits after it.
-fn gained(frame: &[u8], place: Place, s: u8, l: u8, t: Tally) -> Tally
-    requires { (unsound (length frame.now) place ≡ false) × (0 < s) × (s ≤ 16) × (l ≤ 16) × (t.tags < tags_most) }
-    ensures { tally_of frame.now place result ≡ gained_on frame.now s l (tally_of frame.now place t) }
-{
-    let a = read(place, s, t);
-    if is_value(frame, a, top(s)) {
-        return tag(read(place, l, a));
-    }
-    a
-}
-
-// The bits of a mantissa of width m with a gain of 2 or 4.
-fn small_of(m: u8, gain: u8) -> u8
-    requires { (3 ≤ m) × (m ≤ 16) }
-    ensures { (result ≡ small m gain) × (0 < result) × (result ≤ 16) }
-{
-    if gain == 2 { m - 1 } else { m - 2 }
-}
-
-// The bits of the large one after its tag.
-fn large_of(m: u8, gain: u8) -> u8
-    requires { (3 ≤ m) × (m ≤ 16) }
-    ensures { (result ≡ large m gain) × (result ≤ 16) }
-{
-    if gain == 2 { m - 1 } else { m }
-}
-
-// One mantissa of width m, by its gain.
-fn mantissa(frame: &[u8], place: Place, m: u8, gain: u8, t: Tally) -> Tally
-    requires { (unsound (length frame.now) place ≡ false) × (3 ≤ m) × (m ≤ 16) × (t.tags < tags_most) }
-    ensures { tally_of frame.now place result ≡ mantissa_on frame.now m gain (tally_of frame.now place t) }
-{
-    if gain == 1 {
-        return read(place, m, t);
-    }
-    gained(frame, place, small_of(m, gain), large_of(m, gain), t)
-}
-
-// The mantissas of one bin in all six blocks.
-fn six(frame: &[u8], place: Place, m: u8, gain: u8, t: Tally) -> Tally
-    requires { (unsound (length frame.now) place ≡ false) × (3 ≤ m) × (m ≤ 16) × (t.tags + 6 ≤ tags_most) }
-    ensures { tally_of frame.now place result ≡ times 6 (mantissa_on frame.now m gain) (tally_of frame.now place t) }
-{
-    let mut u = t;
-    let mut i: usize = 0;
-    while i < 6 {
-        u = mantissa(frame, place, m, gain, u);
-        i += 1;
-    }
-    u
-}
-
 // Whether a bin has a gain.
 fn is_active(mode: u8, h: u8) -> bool
     ensures { result ≡ is_active mode h }
 {
-    if h < 8 {
-        return false;
-    }
-    if mode < 2 {
-        return h < 12;
-    }
-    h < 17
+    let end = if mode < 2 { 12 } else { 17 };
+    7 < h && h < end
 }
 
-// 1 for an active bin.
-fn one_if(active: bool) -> usize
-    ensures { result ≡ cond active 1 0 }
+// The active bins of a list of codes.
+fn count_active(mode: u8, hebap: &[u8]) -> usize
+    ensures { (result ≡ count_active mode hebap.now) × (result ≤ length hebap.now) }
 {
-    if active { 1 } else { 0 }
-}
-
-// The active bins of a range.
-fn count_active(hebap: &[u8], start: usize, end: usize, mode: u8) -> usize
-    requires { (start ≤ end) × (end ≤ 256) × (end ≤ length hebap.now) }
-    ensures { (result ≡ count_active mode (slice start end hebap.now)) × (result ≤ 256) }
-{
-    let mut n: usize = 0;
-    let mut i = start;
-    while i < end {
-        n = n + one_if(is_active(mode, hebap[i]));
-        i += 1;
-    }
-    n
+    hebap.iter().filter(|h| is_active(mode, **h)).count()
 }
 
 // The gain words that so many active bins have.
@@ -267,271 +85,308 @@ fn words_of(mode: u8, n: usize) -> usize
     requires { n ≤ 256 }
     ensures { result ≡ sections mode n }
 {
-    if mode == 0 {
-        return 0;
+    match mode {
+        0 => 0,
+        3 => (n + 2) / 3,
+        _ => n,
     }
-    if mode == 3 {
-        return (n + 2) / 3;
-    }
-    n
-}
-
-// A composite gain: 14 above 26.
-fn composite(frame: &[u8], place: Place, t: Tally) -> Tally
-    requires { unsound (length frame.now) place ≡ false }
-    ensures { tally_of frame.now place result ≡ composite_on frame.now (tally_of frame.now place t) }
-{
-    let a = read(place, 5, t);
-    if is_above(frame, a, 26) {
-        return refuse(Why::GainAbove, a);
-    }
-    a
-}
-
-// One gain word.
-fn word(frame: &[u8], place: Place, mode: u8, t: Tally) -> Tally
-    requires { unsound (length frame.now) place ≡ false }
-    ensures { tally_of frame.now place result ≡ word_on frame.now mode (tally_of frame.now place t) }
-{
-    if mode == 3 {
-        return composite(frame, place, t);
-    }
-    read(place, 1, t)
-}
-
-// n gain words.
-fn words(frame: &[u8], place: Place, mode: u8, n: usize, t: Tally) -> Tally
-    requires { unsound (length frame.now) place ≡ false }
-    ensures { tally_of frame.now place result ≡ times n (word_on frame.now mode) (tally_of frame.now place t) }
-{
-    let mut u = t;
-    let mut i: usize = 0;
-    while i < n {
-        u = word(frame, place, mode, u);
-        i += 1;
-    }
-    u
 }
 
 // Digit k of three in base 3, the highest first.
 fn digit_of(v: u32, k: usize) -> u32
     ensures { result ≡ digit v k }
 {
-    if k == 0 {
-        return v / 9;
+    match k {
+        0 => v / 9,
+        1 => v % 9 / 3,
+        _ => v % 3,
     }
-    if k == 1 {
-        return v % 9 / 3;
-    }
-    v % 3
 }
 
 // The gain that a digit means.
 fn meant_by(d: u32) -> u8
     ensures { result ≡ meant d }
 {
-    if d == 0 {
-        return 1;
+    match d {
+        0 => 1,
+        1 => 2,
+        _ => 4,
     }
-    if d == 1 {
-        return 2;
-    }
-    4
-}
-
-// The gain of active bin k, in the gain words from bit base on.
-fn gain_of(frame: &[u8], mode: u8, base: usize, k: usize) -> u8
-    requires { (mode < 4) × (base ≤ 32768) × (k ≤ 256) × (base + gain_bits mode (k + 1) ≤ 8 * length frame.now) }
-    ensures { result ≡ gain_of frame.now mode base k }
-{
-    if mode == 0 {
-        return 1;
-    }
-    if mode == 3 {
-        let v = peek(frame, base + 5 * (k / 3), 5);
-        return meant_by(digit_of(v, k % 3));
-    }
-    if peek(frame, base + k, 1) == 1 {
-        return 2 * mode;
-    }
-    1
-}
-
-// The gain of a bin of hebap h, before which there are k active ones.
-fn gain_at(frame: &[u8], mode: u8, base: usize, k: usize, h: u8) -> u8
-    requires { (mode < 4) × (base ≤ 32768) × (k ≤ 256) × (base + gain_bits mode (k + cond (is_active mode h) 1 0) ≤ 8 * length frame.now) }
-    ensures { result ≡ gain_at frame.now mode base k h }
-{
-    if is_active(mode, h) {
-        return gain_of(frame, mode, base, k);
-    }
-    1
 }
 
 const VECTOR_WIDTHS: [u8; 8] = [0, 2, 3, 4, 5, 7, 8, 9];
 
 // The bits of a vector's index, by hebap.
+#[tactic(auto, unfolding(crate::specs::Aht::vector_width))]
 fn vector_width(h: u8) -> u8
-    requires { h < 8 }
-    ensures { result ≡ vector_width h }
+    requires { (0 < h) × (h < 8) }
+    ensures { (result ≡ vector_width h) × (0 < result) × (result ≤ 32) }
 {
-    let i = h as usize;
-    VECTOR_WIDTHS[i]
+    VECTOR_WIDTHS[h as usize]
 }
 
 const GAQ_WIDTHS: [u8; 12] = [3, 4, 5, 6, 7, 8, 9, 10, 11, 12, 14, 16];
 
 // The bits of a mantissa, by hebap from 8 on.
+#[tactic(auto, unfolding(crate::specs::Aht::gaq_width))]
 fn gaq_width(h: u8) -> u8
     requires { (8 ≤ h) × (h ≤ 19) }
     ensures { (result ≡ gaq_width h) × (3 ≤ result) × (result ≤ 16) }
 {
-    let i = (h - 8) as usize;
-    GAQ_WIDTHS[i]
+    GAQ_WIDTHS[(h - 8) as usize]
 }
 
-// One bin: nothing, a vector's index, 13, or six mantissas.
-fn one_bin(frame: &[u8], place: Place, mode: u8, base: usize, k: usize, h: u8, t: Tally) -> Tally
-    requires { (unsound (length frame.now) place ≡ false) × (mode < 4) × (base ≤ 32768) × (k ≤ 256) × (base + gain_bits mode (k + cond (is_active mode h) 1 0) ≤ 8 * length frame.now) × (t.tags + 6 ≤ tags_most) }
-    ensures { tally_of frame.now place result ≡ bin_on frame.now mode base k h (tally_of frame.now place t) }
-{
-    if h == 0 {
-        let course = t.course;
-        // Written out, since a copy of the struct would drag its padding through every turn of the loop.
-        return Tally {
-            pos: t.pos,
-            last: t.last,
-            tags: t.tags,
-            course,
-        };
-    }
-    if h < 8 {
-        return read(place, vector_width(h), t);
-    }
-    if 19 < h {
-        return refuse(Why::PointerAbove, t);
-    }
-    let gain = gain_at(frame, mode, base, k, h);
-    six(frame, place, gaq_width(h), gain, t)
-}
+impl Gains {
+    ghost use Rattle.aht.specs.Tallies.{gain_bits};
 
-// The bins from start to end.
-fn walk_bins(
-    frame: &[u8],
-    place: Place,
-    hebap: &[u8],
-    start: usize,
-    end: usize,
-    mode: u8,
-    base: usize,
-    t: Tally,
-) -> Tally
-    requires place_value { (unsound (length frame.now) place ≡ false) × (start ≤ end) × (end ≤ 256) × (end ≤ length hebap.now) × (mode < 4) × (base ≤ 32768) × (t.tags ≤ 0) }
-    requires hebap_bound { base + gain_bits mode (count_active mode (slice start end hebap.now)) ≤ 8 * length frame.now }
-    ensures { tally_of frame.now place result ≡ walk_on frame.now mode base 0 (slice start end hebap.now) (tally_of frame.now place t) }
-{
-    let mut u = t;
-    let mut k: usize = 0;
-    let mut i = start;
-    while i < end {
-        let h = hebap[i];
-        u = one_bin(frame, place, mode, base, k, h, u);
-        k = k + one_if(is_active(mode, h));
-        i += 1;
-    }
-    u
-}
-
-// The gain words, then the bins.
-fn after_mode(
-    frame: &[u8],
-    place: Place,
-    hebap: &[u8],
-    start: usize,
-    end: usize,
-    mode: u8,
-    t: Tally,
-) -> Tally
-    requires { (unsound (length frame.now) place ≡ false) × (start ≤ end) × (end ≤ 256) × (end ≤ length hebap.now) × (mode < 4) × (t.tags ≤ 0) × (t.pos ≤ place.limit) }
-    ensures { tally_of frame.now place result ≡ bins_on frame.now mode (slice start end hebap.now) (tally_of frame.now place t) }
-{
-    let base = t.pos;
-    let n = count_active(hebap, start, end, mode);
-    let u = words(frame, place, mode, words_of(mode, n), t);
-    let course = u.course;
-    if let Course::Stopped(_) = course {
-        return u;
-    }
-    walk_bins(frame, place, hebap, start, end, mode, base, u)
-}
-
-// gaqmod, and what follows it.
-fn walk_all(
-    frame: &[u8],
-    place: Place,
-    hebap: &[u8],
-    start: usize,
-    end: usize,
-    begun: Tally,
-) -> Tally
-    requires { (unsound (length frame.now) place ≡ false) × (start ≤ end) × (end ≤ 256) × (end ≤ length hebap.now) × (begun.tags ≤ 0) }
-    ensures { tally_of frame.now place result ≡ mode_on frame.now (slice start end hebap.now) (read_on frame.now 2 (tally_of frame.now place begun)) }
-{
-    let t = read(place, 2, begun);
-    let course = t.course;
-    if let Course::Stopped(_) = course {
-        return t;
-    }
-    let mode = last_read(frame, t);
-    after_mode(frame, place, hebap, start, end, mode as u8, t)
-}
-
-// What a walk comes to.
-fn tell(place: Place, t: Tally) -> AhtWalked
-    ensures { (frame : List ℕ) → counted_of result ≡ told (tally_of frame place t) }
-{
-    let course = t.course;
-    let at = stands(place, t.pos);
-    match course {
-        Course::On => AhtWalked {
-            answer: Counted::Tags(t.tags),
-            place: at,
-        },
-        Course::Stopped(why) => {
-            let r = Refusal { why, bit: t.pos };
-            AhtWalked {
-                answer: Counted::Refused(r),
-                place: at,
+    // The gain of the next active bin.
+    #[tactic(auto, unfolding(crate::specs::Aht::gain_of))]
+    fn gain(&self, frame: &[u8]) -> u8
+        requires { (self.now.met ≤ 256) × (self.now.base + gain_bits self.now.mode (self.now.met + 1) ≤ 8 * length frame.now) }
+        ensures { result ≡ gain_of frame.now self.now.mode self.now.base self.now.met }
+    {
+        match self.mode {
+            0 => 1,
+            3 => {
+                let v = peek(frame, self.base + 5 * (self.met / 3), 5);
+                meant_by(digit_of(v, self.met % 3))
+            }
+            mode => {
+                if peek(frame, self.base + self.met, 1) == 1 {
+                    2 * mode
+                } else {
+                    1
+                }
             }
         }
+    }
+
+    // The gain of the next bin, by its hebap.
+    fn next(&mut self, frame: &[u8], h: u8) -> u8
+        requires { (self.old.met ≤ 256) × (self.old.base + gain_bits self.old.mode (self.old.met + cond (is_active self.old.mode h) 1 0) ≤ 8 * length frame.now) }
+        ensures gain { result ≡ gain_at frame.now self.old.mode self.old.base self.old.met h }
+        ensures on { (self.new.mode ≡ self.old.mode) × (self.new.base ≡ self.old.base) × (self.new.met ≡ self.old.met + cond (is_active self.old.mode h) 1 0) }
+    {
+        if !is_active(self.mode, h) {
+            return 1;
+        }
+        let gain = self.gain(frame);
+        self.met += 1;
+        gain
+    }
+}
+
+impl<'a> Over<'a> {
+    ghost use Rattle.aht.specs.Tallies.{place_at, last_of, stood, went, word_width, gain_bits};
+
+    // The place at a bit.
+    fn at(&self, bit: usize) -> Place
+        ensures { result ≡ place_at self.now.place bit }
+    {
+        Place {
+            pos: bit,
+            ..self.place
+        }
+    }
+
+    // The next n bits, of which there is one at least: past the limit there is room for none.
+    fn read(&self, n: u8, t: &mut Tally) -> Result<(), Why>
+        requires { (0 < n) × (n ≤ 32) }
+        ensures read { went self.now result t.new ≡ read_on self.now.frame.now n (stood self.now t.old) }
+        ensures moved { IfOk result (λ _. (t.new.pos ≡ t.old.pos + n) × (t.new.last ≡ n) × (t.new.tags ≡ t.old.tags) × (t.new.pos ≤ self.now.place.limit)) }
+    {
+        let width = n as usize;
+        if self.place.limit.saturating_sub(t.pos) < width {
+            return Err(Why::PastLimit);
+        }
+        t.pos += width;
+        t.last = width;
+        Ok(())
+    }
+
+    // What was read last.
+    fn last_read(&self, t: &Tally) -> u32
+        requires { t.now.pos ≤ self.now.place.limit }
+        ensures { result ≡ last_of self.now.frame.now t.now }
+    {
+        peek(self.frame, t.pos - t.last, t.last)
+    }
+
+    // A mantissa of s bits, and where it is the tag, the large one of l bits after it.
+    fn gained(&self, s: u8, l: u8, t: &mut Tally) -> Result<(), Why>
+        requires { (0 < s) × (s ≤ 16) × (0 < l) × (l ≤ 16) }
+        ensures { went self.now result t.new ≡ gained_on self.now.frame.now s l (stood self.now t.old) }
+    {
+        self.read(s, t)?;
+        if self.last_read(t) == top(s) {
+            self.read(l, t)?;
+            t.tags += 1;
+        }
+        Ok(())
+    }
+
+    // The mantissas of one bin in all six blocks, without a gain. Three such loops, and no step as a closure: its contract would be longer
+    // than the loop.
+    fn six_plain(&self, m: u8, t: &mut Tally) -> Result<(), Why>
+        requires { (0 < m) × (m ≤ 16) }
+        ensures { went self.now result t.new ≡ times 6 (read_on self.now.frame.now m) (stood self.now t.old) }
+    {
+        for _block in 0..6usize {
+            self.read(m, t)?;
+        }
+        Ok(())
+    }
+
+    // The same with a gain.
+    fn six_gained(&self, s: u8, l: u8, t: &mut Tally) -> Result<(), Why>
+        requires { (0 < s) × (s ≤ 16) × (0 < l) × (l ≤ 16) }
+        ensures { went self.now result t.new ≡ times 6 (gained_on self.now.frame.now s l) (stood self.now t.old) }
+    {
+        for _block in 0..6usize {
+            self.gained(s, l, t)?;
+        }
+        Ok(())
+    }
+
+    // The mantissas of one bin, of width m. Their gain is looked at before the loops, which so hold one kind each.
+    fn six(&self, m: u8, gain: u8, t: &mut Tally) -> Result<(), Why>
+        requires { (3 ≤ m) × (m ≤ 16) }
+        ensures { went self.now result t.new ≡ times 6 (mantissa_on self.now.frame.now m gain) (stood self.now t.old) }
+    {
+        if gain == 1 {
+            return self.six_plain(m, t);
+        }
+        let (small, large) = if gain == 2 {
+            (m - 1, m - 1)
+        } else {
+            (m - 2, m)
+        };
+        self.six_gained(small, large, t)
+    }
+
+    // A composite gain: 14 above 26.
+    #[tactic(auto, unfolding(crate::specs::Aht::composite_on, crate::specs::Aht::refuse_on))]
+    fn composite(&self, t: &mut Tally) -> Result<(), Why>
+        ensures moved { IfOk result (λ _. (t.new.pos ≡ t.old.pos + 5) × (t.new.pos ≤ self.now.place.limit)) }
+        ensures gain { went self.now result t.new ≡ composite_on self.now.frame.now (stood self.now t.old) }
+    {
+        self.read(5, t)?;
+        if 26 < self.last_read(t) {
+            return Err(Why::GainAbove);
+        }
+        Ok(())
+    }
+
+    // One gain word.
+    #[tactic(auto, unfolding(crate::specs::Aht::word_on))]
+    fn word(&self, mode: u8, t: &mut Tally) -> Result<(), Why>
+        ensures moved { IfOk result (λ _. (t.new.pos ≡ t.old.pos + word_width mode) × (t.new.pos ≤ self.now.place.limit)) }
+        ensures word { went self.now result t.new ≡ word_on self.now.frame.now mode (stood self.now t.old) }
+    {
+        if mode == 3 {
+            self.composite(t)
+        } else {
+            self.read(1, t)
+        }
+    }
+
+    // n gain words.
+    fn words(&self, mode: u8, n: usize, t: &mut Tally) -> Result<(), Why>
+        requires { t.old.pos ≤ self.now.place.limit }
+        ensures moved { IfOk result (λ _. (t.new.pos ≡ t.old.pos + n * word_width mode) × (t.new.pos ≤ self.now.place.limit)) }
+        ensures words { went self.now result t.new ≡ times n (word_on self.now.frame.now mode) (stood self.now t.old) }
+    {
+        for _word in 0..n {
+            self.word(mode, t)?;
+        }
+        Ok(())
+    }
+
+    // One bin: nothing, a vector's index, 13, or six mantissas.
+    #[tactic(auto, unfolding(crate::specs::Aht::bin_on, crate::specs::Aht::refuse_on))]
+    fn one_bin(&self, gains: &mut Gains, h: u8, t: &mut Tally) -> Result<(), Why>
+        requires { (gains.old.met ≤ 256) × (gains.old.base + gain_bits gains.old.mode (gains.old.met + cond (is_active gains.old.mode h) 1 0) ≤ 8 * length self.now.frame.now) }
+        ensures bin { went self.now result t.new ≡ bin_on self.now.frame.now gains.old.mode gains.old.base gains.old.met h (stood self.now t.old) }
+        ensures on { (gains.new.mode ≡ gains.old.mode) × (gains.new.base ≡ gains.old.base) × (gains.new.met ≡ gains.old.met + cond (is_active gains.old.mode h) 1 0) }
+    {
+        match h {
+            0 => Ok(()),
+            1..=7 => self.read(vector_width(h), t),
+            8..=19 => {
+                let gain = gains.next(self.frame, h);
+                self.six(gaq_width(h), gain, t)
+            }
+            _ => Err(Why::PointerAbove),
+        }
+    }
+
+    // The bins in order, whose gain words begin at bit base.
+    fn bins(&self, mode: u8, base: usize, hebap: &[u8], t: &mut Tally) -> Result<(), Why>
+        requires known { (mode < 4) × (base ≤ 32768) × (length hebap.now ≤ 256) }
+        requires inside { base + gain_bits mode (count_active mode hebap.now) ≤ 8 * length self.now.frame.now }
+        ensures { went self.now result t.new ≡ walk_on self.now.frame.now mode base 0 hebap.now (stood self.now t.old) }
+    {
+        let mut gains = Gains { mode, base, met: 0 };
+        for h in hebap {
+            self.one_bin(&mut gains, *h, t)?;
+        }
+        Ok(())
+    }
+
+    // The gain words, then the bins.
+    fn after_mode(&self, mode: u8, hebap: &[u8], t: &mut Tally) -> Result<(), Why>
+        requires { (mode < 4) × (length hebap.now ≤ 256) × (t.old.pos ≤ self.now.place.limit) }
+        ensures { went self.now result t.new ≡ bins_on self.now.frame.now mode hebap.now (stood self.now t.old) }
+    {
+        let base = t.pos;
+        let n = count_active(mode, hebap);
+        self.words(mode, words_of(mode, n), t)?;
+        self.bins(mode, base, hebap, t)
+    }
+
+    // gaqmod, and what follows it.
+    fn all(&self, hebap: &[u8], t: &mut Tally) -> Result<(), Why>
+        requires { length hebap.now ≤ 256 }
+        ensures { went self.now result t.new ≡ mode_on self.now.frame.now hebap.now (read_on self.now.frame.now 2 (stood self.now t.old)) }
+    {
+        self.read(2, t)?;
+        let mode = self.last_read(t) as u8;
+        self.after_mode(mode, hebap, t)
     }
 }
 
 // Whether a walk can't be asked for so: its place or its range.
+// Beside the test of `walks`: there are no groups here.
 fn is_unfit(len: usize, place: Place, start: usize, end: usize) -> bool
     ensures { result ≡ unfit_aht len place start end }
 {
-    if is_unsound(len, place) {
-        return true;
-    }
-    is_unfit_range(start, end)
+    is_unsound(len, place) || is_unfit_range(start, end)
 }
 
 // Walks over one channel's mantissas of all six blocks in the bins from start to end: 6; then 1, 13 or 14 where it stands. It logs
 // nothing.
 pub fn aht(frame: &[u8], place: Place, hebap: &[u8; 256], start: Bin, end: Bin) -> AhtWalked
-    ensures { counted_of result ≡ aht_of frame.now place hebap.now start.0 end.0 }
+    ensures { bare_moved_of result ≡ aht_of frame.now place hebap.now start.0 end.0 }
 {
-    let first = start.0;
-    let last = end.0;
-    let begun = Tally {
+    if is_unfit(frame.len(), place, start.0, end.0) {
+        return Moved {
+            answer: Err(Why::BadArgument.at(place.pos)),
+            place,
+        };
+    }
+    let over = Over { frame, place };
+    let mut tally = Tally {
         pos: place.pos,
         last: 0,
         tags: 0,
-        course: Course::On,
     };
-    if is_unfit(frame.len(), place, first, last) {
-        return tell(place, refuse(Why::BadArgument, begun));
+    let walked = over.all(&hebap[start.0..end.0], &mut tally);
+    let answer = match walked {
+        Ok(()) => Ok(tally.tags),
+        Err(why) => Err(why.at(tally.pos)),
+    };
+    Moved {
+        answer,
+        place: over.at(tally.pos),
     }
-    tell(place, walk_all(frame, place, hebap, first, last, begun))
 }

@@ -1,21 +1,23 @@
 -- Each case of what `allocate` answers, as the code meets it.
 -- Assumes nothing.
 use Prim.Native.Nat.{ℕ, ◌-◌, ◌≤◌, ◌<◌}
-use mathlib.Core.Path.{◌≡◌, subst, sym}
+use mathlib.Core.Path.{◌≡◌, subst, sym, ap, refl}
 use mathlib.Core.List.{List}
-use mathlib.Core.Bool.{true, false}
+use mathlib.Core.Bool.{Bool, true, false, not}
 use lib.Dec.{T, eqb, eqb→eq}
 use lib.ListN.{length}
 use borrow.Author.Tests.{le-leb, lt-leb, le-ltb, lt-ltb}
-use Rattle.refusal.specs.Refusals.{taken, refused, grounds}
+use Rattle.refusal.specs.Refusals.{Outcome, taken, refused, grounds, refuse_if, and_then}
 use Rattle.alloc.specs.declared.Codes.{Codes}
+use Rattle.std.specs.Prelude.{Option}
 use Rattle.alloc.specs.declared.Leak.{Leak}
 use Rattle.tables.specs.declared.Delta.{Delta}
 use Rattle.tables.specs.declared.Pointers.{Pointers}
 use Rattle.alloc.specs.declared.Curve.{Curve}
 use Rattle.alloc.specs.declared.Levels.{Levels}
+use Rattle.alloc.specs.declared.Parameters.{Parameters}
 use Rattle.alloc.specs.declared.Carried.{Carried}
-use Rattle.alloc.specs.Params.{curve_of, levels_of, start_of}
+use Rattle.alloc.specs.Params.{curve_of, levels_of, start_of, decoded_of}
 use Rattle.tables.specs.Pointers.{table_of}
 use Rattle.alloc.specs.Channel.{pointers_of}
 use Rattle.tables.specs.Bands.{zeros}
@@ -56,35 +58,32 @@ tables_lengths hearing log_add e = (
 )
 
 -- the whole
-module _ (exp : List ℕ) (start end : ℕ) (codes : Codes) (leak : Leak) (delta : Delta) (which : Pointers) (hearing log_add : List ℕ) where
+module _ (exp : List ℕ) (start end : ℕ) (codes : Codes) (leak : Option Leak) (delta : Delta) (which : Pointers) (hearing log_add : List ℕ) where
   pub unfit : tables_fit hearing log_add ≡ false → filled (refused (grounds 21 0)) ≡ allocate_of exp start end codes leak delta which hearing log_add
   unfolding allocate_of
   unfit t = rw t
 
+  -- a channel that follows the parameters at once follows them one by one
+  by_parts : {A : Type 0} (x : Outcome Curve) (y : Outcome Levels) (z : Outcome Carried) (b : Bool) (f : Curve → Levels → Carried → Delta → Outcome A)
+      → and_then (and_then x (λ c. and_then y (λ v. and_then z (λ s. refuse_if b 11 0 (taken (record { curve = c; levels = v; begun = s; delta = delta }))))))
+      (λ (p : Parameters). f p.curve p.levels p.begun p.delta)
+      ≡ and_then x (λ c. and_then y (λ v. and_then z (λ s. refuse_if b 11 0 (f c v s delta))))
+  by_parts (refused g) y z b f = refl
+  by_parts (taken c) (refused g) z b f = refl
+  by_parts (taken c) (taken v) (refused g) b f = refl
+  by_parts (taken c) (taken v) (taken s) true f = refl
+  by_parts (taken c) (taken v) (taken s) false f = refl
+
   module _ (t : tables_fit hearing log_add ≡ true) where
-    pub curve_past : curve_of codes ≡ refused (grounds 11 0)
+    at_once : filled (and_then (decoded_of codes leak delta) (λ (p : Parameters). channel_of exp start end p.curve p.levels p.begun p.delta which hearing log_add))
+        ≡ allocate_of exp start end codes leak delta which hearing log_add
+    unfolding allocate_of decoded_of
+    at_once = rw t (ap (λ o. filled o) (by_parts (curve_of codes) (levels_of codes) (start_of leak) (not (delta_fits delta)) (λ c v s d. channel_of exp start end c v s d which hearing log_add)))
+
+    pub code_past : refused (grounds 11 0) ≡ decoded_of codes leak delta
         → filled (refused (grounds 11 0)) ≡ allocate_of exp start end codes leak delta which hearing log_add
-    unfolding allocate_of
-    curve_past q = rw (t, q)
+    code_past q = rw (← q) at at_once
 
-    module _ {c : Curve} (p : curve_of codes ≡ taken c) where
-      pub levels_past : levels_of codes ≡ refused (grounds 11 0)
-          → filled (refused (grounds 11 0)) ≡ allocate_of exp start end codes leak delta which hearing log_add
-      unfolding allocate_of
-      levels_past q = rw (t, p, q)
-
-      module _ {v : Levels} (q : levels_of codes ≡ taken v) where
-        pub leak_past : start_of leak ≡ refused (grounds 11 0)
-            → filled (refused (grounds 11 0)) ≡ allocate_of exp start end codes leak delta which hearing log_add
-        unfolding allocate_of
-        leak_past r = rw (t, p, q, r)
-
-        module _ {s : Carried} (r : start_of leak ≡ taken s) where
-          pub delta_past : delta_fits delta ≡ false → filled (refused (grounds 11 0)) ≡ allocate_of exp start end codes leak delta which hearing log_add
-          unfolding allocate_of
-          delta_past f = rw (t, p, q, r, f)
-
-          pub decoded : delta_fits delta ≡ true
-              → filled (channel_of exp start end c v s delta which hearing log_add) ≡ allocate_of exp start end codes leak delta which hearing log_add
-          unfolding allocate_of
-          decoded f = rw (t, p, q, r, f)
+    pub all_decoded : (p : Parameters) → taken p ≡ decoded_of codes leak delta
+        → filled (channel_of exp start end p.curve p.levels p.begun p.delta which hearing log_add) ≡ allocate_of exp start end codes leak delta which hearing log_add
+    all_decoded p q = rw (← q) at at_once

@@ -18,12 +18,15 @@ use Rattle.refusal.proofs.TestLaws.{and_left, and_right}
 use Rattle.tables.proofs.FitLaws.{upto_at}
 use Rattle.alloc.specs.declared.Codes.{Codes}
 use Rattle.alloc.specs.declared.Leak.{Leak}
-use Rattle.alloc.specs.declared.Leak.TheVariants as leak
+use Rattle.std.specs.Prelude.{Option, Some, None}
 use Rattle.alloc.specs.declared.Curve.{Curve}
 use Rattle.alloc.specs.declared.Levels.{Levels}
 use Rattle.alloc.specs.declared.Carried.{Carried}
-use Rattle.alloc.specs.Params.{curve_of, levels_of, begins_at, leaks_of, start_of}
-use Rattle.alloc.specs.Ranges.{Tame, Kept, Level, Segments}
+use Rattle.alloc.specs.Params.{curve_of, levels_of, begins_at, leaks_of, start_of, decoded_of}
+use Rattle.alloc.specs.Ranges.{Tame, Kept, Level, Segments, Decoded}
+use Rattle.alloc.specs.declared.Parameters.{Parameters}
+use mathlib.Core.Bool.{Bool, false, not}
+use mathlib.Core.Path.{refl}
 
 pub curve_tame : (k : Codes) (c : Curve) → curve_of k ≡ taken c → Tame c
 unfolding curve_of
@@ -59,14 +62,14 @@ begins_kept : (f s : ℤ) → Within 131072 131072 f → Within 131072 131072 s 
 begins_kept f s wf ws =
     record { fast = wf; slow = ws; low = record { low = omega arith; high = omega arith }; out = record { low = omega arith; high = omega arith } }
 
-pub start_kept : (l : Leak) (s : Carried) → start_of l ≡ taken s → Kept s
+pub start_kept : (l : Option Leak) (s : Carried) → start_of l ≡ taken s → Kept s
 unfolding start_of leaks_of
-start_kept leak.None s e = subst Kept (taken_same e)
+start_kept None s e = subst Kept (taken_same e)
     (begins_kept (pos 0) (pos 0) (record { low = omega arith; high = omega arith }) (record { low = omega arith; high = omega arith }))
-start_kept (leak.Codes f g) s e =
-    let a = past_then (leak_of f) _ e in
-    let b = past_then (leak_of g) _ a.2 in
-    subst Kept (taken_same b.2) (begins_kept a.0 b.0 (leak_within f a.0 a.1) (leak_within g b.0 b.1))
+start_kept (Some k) s e =
+    let a = past_then (leak_of k.cplfleak) _ e in
+    let b = past_then (leak_of k.cplsleak) _ a.2 in
+    subst Kept (taken_same b.2) (begins_kept a.0 b.0 (leak_within k.cplfleak a.0 a.1) (leak_within k.cplsleak b.0 b.1))
 
 pub delta_sized : (d : Delta) → delta_fits d ≡ true → Segments d
 unfolding delta_fits
@@ -82,3 +85,22 @@ delta_sized d e =
       len = record { at = λ k h. omega (arith, l k zero-le (omega arith)) };
       ba = record { at = λ k h. omega (arith, s k zero-le (omega arith)) };
     }
+
+pub decoded_fit : (k : Codes) (l : Option Leak) (d : Delta) (p : Parameters) → decoded_of k l d ≡ taken p → Decoded p
+unfolding decoded_of
+decoded_fit k l d p e =
+    let c = past_then (curve_of k) _ e in
+    let v = past_then (levels_of k) _ c.2 in
+    let s = past_then (start_of l) _ v.2 in
+    let f = past_refuse_if (not (delta_fits d)) 11 0 _ s.2 in
+    subst Decoded (taken_same f.1)
+    (record {
+      curve = curve_tame k c.0 c.1;
+      levels = levels_level k v.0 v.1;
+      begun = start_kept l s.0 s.1;
+      delta = delta_sized d (fits (delta_fits d) f.0);
+    })
+  where
+    fits : (b : Bool) → not b ≡ false → b ≡ true
+    fits true q = refl
+    fits false q = cc

@@ -10,6 +10,8 @@ use borrow.Author.Tests.{ltb-true}
 use mathlib.Core.Bool.{Bool, true, false, ◌&&◌, cond, not}
 use lib.Dec.{ltb, eqb, leb}
 use lib.Signed.{shr_z, lt_z}
+use Rattle.std.specs.Int.{int_max}
+use Rattle.std.proofs.lemmas.Int.{ints}
 use Rattle.alloc.specs.declared.Carried.{Carried}
 use Rattle.alloc.specs.declared.Curve.{Curve}
 use Rattle.tables.specs.Numbers.{up, max_z, Within, Each}
@@ -22,6 +24,10 @@ use Rattle.alloc.specs.Channel.{of, stop_of}
 use Rattle.tables.proofs.Signed.{parts, add_law, min_law, shr4_law, max_law, within_cond, within_max, within_sub, within_add, widen}
 use Rattle.alloc.proofs.TableLaws.{table_each, inside_within}
 use Rattle.tables.proofs.BandLaws.{in_band}
+
+-- the larger of two, as std says it
+pub max_is : (a b : ℤ) → int_max a b ≡ max_z a b
+max_is a b = grind (arith, ints)
 
 pub psd_within : (e : ℕ) → e < 256 → Within 29568 3072 (psd_of e)
 unfolding psd_of

@@ -10,10 +10,8 @@ use Rattle.alloc.specs.declared.Carried.{Carried}
 use Rattle.alloc.specs.declared.Curve.{Curve}
 use Rattle.alloc.specs.Clauses.{logadd, band_sum, mask_at, masks_of, delta_of, add_segment, segment_end, deltas_of, address, bap_at, baps_of, pointed, mask_step}
 use Rattle.tables.specs.Bands.{band_of}
-use Rattle.alloc.specs.Table.{inside, blend}
 use Rattle.alloc.specs.Excite.{step, leak_at}
-use Rattle.alloc.specs.Channel.{masks_from}
-use Rattle.alloc.proofs.TableLaws.{fill_turn, blend_turn, blend_clip, blend_inside, table_of, length_table}
+use Rattle.alloc.proofs.TableLaws.{fill_turn, blend_turn, blend_clip, blend_inside, table_of}
 
 -- one bin more
 pub band_sum_next : (latab : List ℕ) (psd : ℕ → ℤ) (lo j : ℕ) → lo < j
@@ -40,10 +38,6 @@ pub segment_clip : (d : ℤ) (a b : ℕ) (mask : List ℤ) → add_segment d (mi
 unfolding add_segment
 segment_clip d a b mask = blend_clip 50 a b (λ (j : ℕ). get_or mask j (pos 0) +ℤ d) (λ (j : ℕ). get_or mask j (pos 0)) (pos 0)
 
-pub segment_length : (d : ℤ) (a b : ℕ) (mask : List ℤ) → length (add_segment d a b mask) ≡ 50
-unfolding add_segment
-segment_length d a b mask = length_table 50 (blend a b (λ (j : ℕ). get_or mask j (pos 0) +ℤ d) (λ (j : ℕ). get_or mask j (pos 0)))
-
 -- 6.2.2.7
 pub pointed_turn : (baptab : List ℕ) (psd : ℕ → ℤ) (m : ℤ) (lo i : ℕ) (out : List ℕ) (v : ℕ) → lo ≤ i → v ≡ get_or baptab (address (psd i) m) 0
     → set (pointed baptab psd m lo i out) i v ≡ pointed baptab psd m lo (i + 1) out
@@ -53,10 +47,6 @@ pointed_turn baptab psd m lo i out v h e = blend_turn 256 lo i (λ (j : ℕ). ge
 pub pointed_none : (baptab : List ℕ) (psd : ℕ → ℤ) (m : ℤ) (lo : ℕ) (out : List ℕ) → length out ≡ 256 → out ≡ pointed baptab psd m lo lo out
 unfolding pointed
 pointed_none baptab psd m lo out e = table_of 256 lo (λ (j : ℕ). get_or baptab (address (psd j) m) 0) out 0 e
-
-pub baps_length : (baptab : List ℕ) (psd mask : ℕ → ℤ) (snr floor : ℤ) (start n : ℕ) → length (baps_of baptab psd mask snr floor start n) ≡ 256
-unfolding baps_of
-baps_length baptab psd mask snr floor start n = length_table 256 (inside start n 0 (bap_at baptab psd mask snr floor))
 
 -- a band more, of whose bins m is the mask
 pub baps_band : (baptab : List ℕ) (psd mask : ℕ → ℤ) (snr floor m : ℤ) (start lo hi : ℕ) → start ≤ lo → lo ≤ hi
@@ -73,11 +63,6 @@ pub masks_turn : (excite power : ℕ → ℤ) (knee : ℤ) (hearing : List ℕ) 
 unfolding masks_of
 masks_turn excite power knee hearing fscod first k v h e =
     fill_turn 50 first k (pos 0) (λ k. mask_at (excite k) (power k) knee (get_or hearing (50 * fscod + k) 0)) v h e
-
-pub masks_length : (psd : List ℤ) (latab hearing : List ℕ) (start end : ℕ) (c : Curve) (s : Carried) (knee : ℤ) (fscod : ℕ)
-    → length (masks_from psd latab hearing start end c s knee fscod) ≡ 50
-unfolding masks_from masks_of
-masks_length psd latab hearing start end c s knee fscod = length_table 50 _
 
 pub segment_end_next : (offs lens : List ℕ) (n : ℕ) → segment_end offs lens (n + 1) ≡ segment_end offs lens n + get_or offs n 0 + get_or lens n 0
 unfolding segment_end

@@ -1,10 +1,8 @@
 -- What `allocate` answers, for all inputs, by document 01's numbers and in its order: "One channel alone takes codes too: 21, 11, the empty
 -- range, 6, 8, in this order". There is no cursor here, so a refusal's bit is 0.
 -- Assumes nothing.
-use Rattle.std.specs.Prelude.{ℕ, ◌-◌, List, cond, not, ltb, leb}
-use Rattle.refusal.specs.Refusals.{Outcome, taken, told, refuse_if, and_then, Ran, leaves}
-use Rattle.alloc.specs.declared.Ended.{Ended}
-use Rattle.alloc.specs.declared.Ended.TheVariants as ended
+use Rattle.std.specs.Prelude.{ℕ, ◌-◌, List, Option, cond, not, ltb, leb}
+use Rattle.refusal.specs.Refusals.{Outcome, taken, refuse_if, and_then, Ran, leaves}
 use Rattle.alloc.specs.declared.Codes.{Codes}
 use Rattle.alloc.specs.declared.Leak.{Leak}
 use Rattle.tables.specs.declared.Delta.{Delta}
@@ -17,15 +15,6 @@ use Rattle.tables.specs.Fits.{upto, tables_fit, delta_fits}
 use Rattle.tables.specs.Pointers.{table_of}
 use Rattle.alloc.specs.Params.{curve_of, levels_of, start_of}
 use Rattle.alloc.specs.Channel.{pointers_of}
-
--- what an answer means
-abbrev pub ended_of : Ended → Outcome Unit
-ended_of ended.Done = taken tt
-ended_of (ended.Refused r) = told r
-
--- with the pointers beside it
-abbrev pub allocated_of : Ended → List ℕ → Ran (List ℕ) Unit
-allocated_of r bap = record { outcome = ended_of r; state = bap }
 
 -- a channel with its parameters decoded: the empty range, 6, 8, and the pointers
 unfoldable pub channel_of : List ℕ → ℕ → ℕ → Curve → Levels → Carried → Delta → Pointers → List ℕ → List ℕ → Outcome (List ℕ)
@@ -40,7 +29,7 @@ abbrev pub filled : Outcome (List ℕ) → Ran (List ℕ) Unit
 filled o = leaves zeros o
 
 -- 21, then 11, then the channel
-unfoldable pub allocate_of : List ℕ → ℕ → ℕ → Codes → Leak → Delta → Pointers → List ℕ → List ℕ → Ran (List ℕ) Unit
+unfoldable pub allocate_of : List ℕ → ℕ → ℕ → Codes → Option Leak → Delta → Pointers → List ℕ → List ℕ → Ran (List ℕ) Unit
 allocate_of exp start end codes leak delta which hearing log_add =
     filled
     (refuse_if (not (tables_fit hearing log_add)) 21 0

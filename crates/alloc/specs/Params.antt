@@ -1,20 +1,16 @@
 -- TS 6.2.2.1: a channel's parameters, out of the codes that it is sent with. The first code past its table is refused with 11.
 -- Assumes nothing.
-use Rattle.std.specs.Prelude.{ℕ, ℤ, pos, ltb, false}
-use Rattle.refusal.specs.Refusals.{Outcome, taken, refused, grounds, refuse_if, and_then}
+use Rattle.std.specs.Prelude.{ℕ, ℤ, pos, ltb, false, not, Option, Some, None}
+use Rattle.refusal.specs.Refusals.{Outcome, taken, refuse_if, and_then}
 use Rattle.tables.specs.Codes.{code_at, slow_decay, fast_decay, slow_gain, knee_table, floor_table, fast_gain, leak_of, snr_of}
 use Rattle.alloc.specs.declared.Codes.{Codes}
 use Rattle.alloc.specs.declared.Leak.{Leak}
-use Rattle.alloc.specs.declared.Leak.TheVariants as leak
 use Rattle.alloc.specs.declared.Curve.{Curve}
-use Rattle.alloc.specs.declared.Curved.{Curved}
-use Rattle.alloc.specs.declared.Curved.TheVariants as curved
 use Rattle.alloc.specs.declared.Levels.{Levels}
-use Rattle.alloc.specs.declared.Leveled.{Leveled}
-use Rattle.alloc.specs.declared.Leveled.TheVariants as leveled
 use Rattle.alloc.specs.declared.Carried.{Carried}
-use Rattle.alloc.specs.declared.Begun.{Begun}
-use Rattle.alloc.specs.declared.Begun.TheVariants as begun
+use Rattle.alloc.specs.declared.Parameters.{Parameters}
+use Rattle.tables.specs.declared.Delta.{Delta}
+use Rattle.tables.specs.Fits.{delta_fits}
 
 -- the decays and gains of a channel
 unfoldable pub curve_of : Codes → Outcome Curve
@@ -43,19 +39,15 @@ unfoldable pub leaks_of : ℕ → ℕ → Outcome Carried
 leaks_of f s = and_then (leak_of f) (λ fast. and_then (leak_of s) (λ slow. taken (begins_at fast slow)))
 
 -- "a leak not given is 0, 0"
-unfoldable pub start_of : Leak → Outcome Carried
-start_of leak.None = taken (begins_at (pos 0) (pos 0))
-start_of (leak.Codes f s) = leaks_of f s
+unfoldable pub start_of : Option Leak → Outcome Carried
+start_of None = taken (begins_at (pos 0) (pos 0))
+start_of (Some l) = leaks_of l.cplfleak l.cplsleak
 
--- what each answer means
-abbrev pub curved_of : Curved → Outcome Curve
-curved_of (curved.Of c) = taken c
-curved_of curved.Past = refused (grounds 11 0)
-
-abbrev pub leveled_of : Leveled → Outcome Levels
-leveled_of (leveled.Of v) = taken v
-leveled_of leveled.Past = refused (grounds 11 0)
-
-abbrev pub begun_of : Begun → Outcome Carried
-begun_of (begun.Of s) = taken s
-begun_of begun.Past = refused (grounds 11 0)
+-- all of a channel's parameters
+unfoldable pub decoded_of : Codes → Option Leak → Delta → Outcome Parameters
+decoded_of k l d =
+    and_then (curve_of k) (λ c.
+    and_then (levels_of k) (λ v.
+    and_then (start_of l) (λ s.
+    refuse_if (not (delta_fits d)) 11 0
+    (taken (record { curve = c; levels = v; begun = s; delta = d })))))

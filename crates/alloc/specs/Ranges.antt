@@ -4,6 +4,7 @@ use Rattle.std.specs.Prelude.{List, ◌≤◌, ℤ}
 use Rattle.alloc.specs.declared.Carried.{Carried}
 use Rattle.alloc.specs.declared.Curve.{Curve}
 use Rattle.alloc.specs.declared.Levels.{Levels}
+use Rattle.alloc.specs.declared.Parameters.{Parameters}
 use Rattle.tables.specs.declared.Delta.{Delta}
 use Rattle.tables.specs.Numbers.{Within, Each, Upto}
 
@@ -98,3 +99,10 @@ pub record Segments (d : Delta) : Type 0 where
   pub offset : Upto 32 d.offset d.count
   pub len : Upto 16 d.len d.count
   pub ba : Upto 8 d.ba d.count
+
+-- all of a channel's parameters
+pub record Decoded (p : Parameters) : Type 0 where
+  pub curve : Tame p.curve
+  pub levels : Level p.levels
+  pub begun : Kept p.begun
+  pub delta : Segments p.delta

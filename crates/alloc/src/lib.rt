@@ -1,22 +1,23 @@
 // Bit allocation of one channel, ETSI TS 102 366 V1.4.1 ("TS") 6.2.2: from its exponents and side information to the pointers of its bins.
 #![tactic(auto)]
 
-ghost use Rattle.std.specs.Prelude.{◌≡◌, ◌+◌, ◌-◌, ◌<◌, ◌≤◌, ◌*◌, ◌/◌, min, max, length, get_or, true, not, ◌&&◌, ltb, eqb, pos, nat_abs, ◌-ℤ◌};
+ghost use Rattle.std.specs.Prelude.{◌≡◌, ◌+◌, ◌-◌, ◌<◌, ◌≤◌, min, max, length, get_or, true, false, not, ◌&&◌, ltb, eqb, pos, ◌-ℤ◌, MatchOption};
 ghost use Rattle.std.specs.Int.Signed.{le_z, shr_z};
-ghost use Rattle.refusal.specs.Refusals.{number_of, grounds, refused as refused_of};
-ghost use Rattle.tables.specs.Numbers.{Upto, max_z};
-ghost use Rattle.tables.specs.Bands.{zeros, band_of};
-ghost use Rattle.tables.specs.Fits.{upto};
+ghost use Rattle.refusal.specs.Refusals.{ran_of};
+ghost use Rattle.tables.specs.Numbers.{max_z};
+ghost use Rattle.tables.specs.Bands.{zeros, band_start, band_of};
+ghost use Rattle.tables.specs.Codes.{coded_of};
+ghost use Rattle.tables.specs.Fits.{upto, tables_fit};
 ghost use Rattle.alloc.specs.Table.{noughts};
-ghost use Rattle.alloc.specs.Params.{curve_of, levels_of, start_of, curved_of, leveled_of, begun_of, leaks_of};
+ghost use Rattle.alloc.specs.Params.{curve_of, levels_of, start_of, leaks_of, begins_at, decoded_of};
 ghost use Rattle.alloc.specs.Clauses.{logadd as logadd_of, rises as rises_of, low_step, calc_lowcomp, mask_step, band_sum, mask_at, masks_of, deltas_of, delta_of, add_segment, baps_of, pointed, band_power, band_powers, psd_of, powers_of, address as address_of};
 ghost use Rattle.alloc.specs.Excite.{decayed, step_first, step_begin, step_low, step_high, step_full, low_next, step, excite_of};
-ghost use Rattle.alloc.specs.Ranges.{Power, Powers, BandPowers, Sum, Sums, Excited, Excitations, Low, Gain, Knee, Floor, Snr, Masks, ShiftedMask, ShiftedMasks, Shift, Cut, Tame, Kept, Level, Segments};
+ghost use Rattle.alloc.specs.Ranges.{Power, Powers, BandPowers, Sum, Sums, Excited, Excitations, Low, Gain, Knee, Floor, Snr, Masks, ShiftedMask, ShiftedMasks, Shift, Cut, Tame, Kept, Segments, Decoded};
 ghost use Rattle.alloc.specs.Channel.{masks_from, pointers_of};
-ghost use Rattle.alloc.specs.Answers.{ended_of, allocated_of, channel_of, filled, allocate_of};
+ghost use Rattle.alloc.specs.Answers.{channel_of, filled, allocate_of};
 
 use refusal::{Refusal, Why};
-use tables::{Band, Bin, Coded, Delta, Pointers};
+use tables::{Band, Bin, Delta, Pointers};
 
 // The side information of a channel by its names in TS, not yet decoded.
 #[derive(Clone, Copy)]
@@ -32,21 +33,15 @@ pub struct Codes {
     pub fscod: u8,
 }
 
-// The leaks that the coupling channel begins with, cplfleak and cplsleak, not yet decoded. None is 0, 0.
+// The leaks that the coupling channel begins with, not yet decoded.
 #[derive(Clone, Copy)]
-pub enum Leak {
-    None,
-    Codes(u8, u8),
+pub struct Leak {
+    pub cplfleak: u8,
+    pub cplsleak: u8,
 }
 
-// How a call ended that answers no value.
-#[derive(Clone, Copy)]
-pub enum Ended {
-    Done,
-    Refused(Refusal),
-}
-
-// The decays and gains of a channel.
+// The decays and gains of a channel. Their range, and below that of what is carried, stands in clauses (`Tame`, `Kept`) and not in the
+// types: the definitions, such as `step_low`, are over any numbers, which a type with an invariant would not have.
 #[derive(Clone, Copy)]
 struct Curve {
     sdecay: i32,
@@ -55,40 +50,17 @@ struct Curve {
     fgain: i32,
 }
 
-// The decays and gains, or that a code is past its table.
-#[derive(Clone, Copy)]
-enum Curved {
-    Of(Curve),
-    Past,
-}
-
 // The decays and gains of the codes.
-fn curve_of(codes: Codes) -> Curved
-    ensures { curved_of result ≡ curve_of codes }
+#[tactic(auto, unfolding(crate::specs::Params::curve_of))]
+fn curve_of(codes: Codes) -> Option<Curve>
+    ensures { coded_of result ≡ curve_of codes }
 {
-    let x = tables::slow_decay(codes.sdcycod);
-    let Coded::Value(sd) = x else {
-        return Curved::Past;
-    };
-    let y = tables::fast_decay(codes.fdcycod);
-    let Coded::Value(fd) = y else {
-        return Curved::Past;
-    };
-    let z = tables::slow_gain(codes.sgaincod);
-    let Coded::Value(sg) = z else {
-        return Curved::Past;
-    };
-    let w = tables::fast_gain(codes.fgaincod);
-    let Coded::Value(fg) = w else {
-        return Curved::Past;
-    };
-    let c = Curve {
-        sdecay: sd,
-        fdecay: fd,
-        sgain: sg,
-        fgain: fg,
-    };
-    Curved::Of(c)
+    Some(Curve {
+        sdecay: tables::slow_decay(codes.sdcycod)?,
+        fdecay: tables::fast_decay(codes.fdcycod)?,
+        sgain: tables::slow_gain(codes.sgaincod)?,
+        fgain: tables::fast_gain(codes.fgaincod)?,
+    })
 }
 
 // The knee, the floor, the SNR offset, and the row of HEARING.
@@ -100,40 +72,25 @@ struct Levels {
     fscod: usize,
 }
 
-// The levels, or that a code is past its table.
-#[derive(Clone, Copy)]
-enum Leveled {
-    Of(Levels),
-    Past,
-}
-
 // The levels of the codes.
-fn levels_of(codes: Codes) -> Leveled
-    ensures { leveled_of result ≡ levels_of codes }
+// fscod has a name of its own, since it is tested and then converted.
+#[tactic(auto, unfolding(crate::specs::Params::levels_of))]
+fn levels_of(codes: Codes) -> Option<Levels>
+    ensures { coded_of result ≡ levels_of codes }
 {
+    let knee = tables::knee_of(codes.dbpbcod)?;
+    let floor = tables::floor_of(codes.floorcod)?;
+    let snr = tables::snr_of(codes.csnroffst, codes.fsnroffst)?;
     let fscod = codes.fscod;
-    let x = tables::knee_of(codes.dbpbcod);
-    let Coded::Value(knee) = x else {
-        return Leveled::Past;
-    };
-    let y = tables::floor_of(codes.floorcod);
-    let Coded::Value(floor) = y else {
-        return Leveled::Past;
-    };
-    let z = tables::snr_of(codes.csnroffst, codes.fsnroffst);
-    let Coded::Value(snr) = z else {
-        return Leveled::Past;
-    };
     if fscod > 2 {
-        return Leveled::Past;
+        return None;
     }
-    let v = Levels {
-        knee: knee,
-        floor: floor,
-        snr: snr,
+    Some(Levels {
+        knee,
+        floor,
+        snr,
         fscod: fscod as usize,
-    };
-    Leveled::Of(v)
+    })
 }
 
 // What goes from a band to the next: the two leaks, the low-frequency compensation, the band's excitation, and whether the leaks decay yet.
@@ -146,160 +103,158 @@ struct Carried {
     begun: bool,
 }
 
-// What the first band begins with, or that a code is past its table.
-#[derive(Clone, Copy)]
-enum Begun {
-    Of(Carried),
-    Past,
+// What the first band begins with, by its leaks.
+fn begins_at(fast: i32, slow: i32) -> Carried
+    ensures { result ≡ begins_at fast slow }
+{
+    Carried {
+        fast,
+        slow,
+        low: 0,
+        out: 0,
+        begun: false,
+    }
 }
 
 // What the first band of the coupling channel begins with.
-fn leaks_of(f: u8, s: u8) -> Begun
-    ensures { begun_of result ≡ leaks_of f s }
+#[tactic(auto, unfolding(crate::specs::Params::leaks_of))]
+fn leaks_of(f: u8, s: u8) -> Option<Carried>
+    ensures { coded_of result ≡ leaks_of f s }
 {
-    let x = tables::leak_of(f);
-    let Coded::Value(fast) = x else {
-        return Begun::Past;
-    };
-    let y = tables::leak_of(s);
-    let Coded::Value(slow) = y else {
-        return Begun::Past;
-    };
-    let c = Carried {
-        fast: fast,
-        slow: slow,
-        low: 0,
-        out: 0,
-        begun: false,
-    };
-    Begun::Of(c)
+    let fast = tables::leak_of(f)?;
+    let slow = tables::leak_of(s)?;
+    Some(begins_at(fast, slow))
 }
 
-// What the first band begins with.
-fn begun_of(leak: Leak) -> Begun
-    ensures { begun_of result ≡ start_of leak }
+// What the first band begins with. A leak not given is 0, 0.
+#[tactic(auto, unfolding(crate::specs::Params::start_of))]
+fn begun_of(leak: Option<Leak>) -> Option<Carried>
+    ensures { coded_of result ≡ start_of leak }
 {
-    let l = leak;
-    if let Leak::Codes(f, s) = l {
-        return leaks_of(f, s);
+    match leak {
+        Some(l) => leaks_of(l.cplfleak, l.cplsleak),
+        None => Some(begins_at(0, 0)),
     }
-    let c = Carried {
-        fast: 0,
-        slow: 0,
-        low: 0,
-        out: 0,
-        begun: false,
-    };
-    Begun::Of(c)
 }
 
-// The larger of two.
-fn larger(a: i32, b: i32) -> i32
-    ensures { result ≡ max_z a b }
-{
-    if a < b { b } else { a }
+// A channel's parameters, decoded.
+#[derive(Clone, Copy)]
+struct Parameters {
+    curve: Curve,
+    levels: Levels,
+    begun: Carried,
+    delta: Delta,
 }
 
-// The later of two places.
-fn later(a: usize, b: usize) -> usize
-    ensures { result ≡ max a b }
+// The parameters of the codes, or nothing where one is past its table.
+#[tactic(auto, unfolding(crate::specs::Params::decoded_of))]
+fn decoded(codes: Codes, leak: Option<Leak>, delta: Delta) -> Option<Parameters>
+    ensures { coded_of result ≡ decoded_of codes leak delta }
 {
-    if a < b { b } else { a }
+    let curve = curve_of(codes)?;
+    let levels = levels_of(codes)?;
+    let begun = begun_of(leak)?;
+    if !tables::delta_fits(delta) {
+        return None;
+    }
+    Some(Parameters {
+        curve,
+        levels,
+        begun,
+        delta,
+    })
 }
 
-// The sooner of two places.
-fn sooner(a: usize, b: usize) -> usize
-    ensures { result ≡ min a b }
-{
-    if a < b { a } else { b }
+// The bins that a channel has: there are some, and none past the last band.
+#[derive(Clone, Copy)]
+struct Bins {
+    start: Bin,
+    end: Bin,
+    ghost range: { (start.0 < end.0) × (end.0 ≤ 253) },
+}
+
+impl Bins {
+    // The first band that has some of them, and the one after the last.
+    fn bands(self) -> (Band, Band)
+        ensures is { (result.0.0 ≡ band_of self.start.0) × (result.1.0 ≡ band_of (self.end.0 - 1) + 1) }
+        ensures order { (result.0.0 < result.1.0) × (result.1.0 ≤ 50) }
+    {
+        let last = tables::band_of(Bin(self.end.0 - 1));
+        (tables::band_of(self.start), Band(last.0 + 1))
+    }
+
+    // The first of them that a band has, and the one after the last.
+    fn of_band(self, k: Band) -> (Bin, Bin)
+        requires { (band_of self.start.0 ≤ k.0) × (k.0 < band_of (self.end.0 - 1) + 1) }
+        ensures is { (result.0.0 ≡ max (band_start k.0) self.start.0) × (result.1.0 ≡ min (band_start (k.0 + 1)) self.end.0) }
+        ensures order { (result.0.0 < result.1.0) × (result.1.0 ≤ 253) }
+    {
+        let lo = tables::start_of(k).0.max(self.start.0);
+        let hi = tables::start_of(Band(k.0 + 1)).0.min(self.end.0);
+        (Bin(lo), Bin(hi))
+    }
 }
 
 // 6.2.2.2: the power of a bin.
+#[tactic(auto, unfolding(crate::specs::Clauses::psd_of))]
 fn psd_of(e: u8) -> i32
     ensures { result ≡ psd_of e }
 {
     3072 - 128 * (e as i32)
 }
 
-// Puts the powers of the bins from start to end, into zeros.
-fn powers(exp: &[u8; 256], start: usize, end: usize, psd: &mut [i32; 256])
-    requires { (start ≤ end) × (end ≤ 256) × (psd.old ≡ noughts 256) }
-    ensures { psd.new ≡ powers_of exp.now start end }
+// Puts the powers of a channel's bins, into zeros. Their range stands in the clauses of what reads them: an array in a struct with that
+// invariant would be named through a field at each index, and be proved fit at each write.
+// Arrays are lent and filled, here and below: one that is returned is copied on its way, a tenth of a call. Loops apart: bounds, what is carried
+// and what is known differ, and a closure would have each one's contract anew.
+fn powers(exp: &[u8; 256], bins: Bins, psd: &mut [i32; 256])
+    requires { psd.old ≡ noughts 256 }
+    ensures { psd.new ≡ powers_of exp.now bins.start.0 bins.end.0 }
 {
-    let mut i = start;
-    while i < end {
+    for i in bins.start.0..bins.end.0 {
         psd[i] = psd_of(exp[i]);
-        i += 1;
     }
 }
 
-// How far a number lies from 0.
-fn magnitude(z: i32) -> usize
-    requires { Excited z }
-    ensures { result ≡ nat_abs z }
-{
-    if z < 0 { (0 - z) as usize } else { z as usize }
-}
-
-// The place in the table for two powers that lie d apart.
-fn distance(d: usize) -> usize
-    ensures { result ≡ min (d / 2) 255 }
-{
-    if d < 510 { d / 2 } else { 255 }
-}
-
 // 6.2.2.3: the sum of two powers.
-fn logadd(a: i32, b: i32, latab: &[u8]) -> i32
-    requires { Sum a × Sum b × (length latab.now ≡ 256) }
+fn logadd(a: i32, b: i32, latab: &[u8; 256]) -> i32
+    requires { Sum a × Sum b }
     ensures { result ≡ logadd_of latab.now a b }
 {
-    let at = distance(magnitude(a - b));
-    larger(a, b) + (latab[at] as i32)
+    let at = (a.abs_diff(b) / 2).min(255) as usize;
+    b.max(a) + latab[at] as i32
 }
 
 // The power of the bins from lo to hi.
-fn band_sum(psd: &[i32; 256], latab: &[u8], lo: usize, hi: usize) -> i32
-    requires { (length latab.now ≡ 256) × (lo < hi) × (hi ≤ 256) × Powers psd.now }
+fn band_sum(psd: &[i32; 256], latab: &[u8; 256], lo: usize, hi: usize) -> i32
+    requires { (lo < hi) × (hi ≤ 256) × Powers psd.now }
     ensures { result ≡ band_sum latab.now (λ k. get_or psd.now k (pos 0)) lo (hi - 1 - lo) }
 {
     let mut acc = psd[lo];
-    let mut j = lo + 1;
-    while j < hi {
+    for j in lo + 1..hi {
         acc = logadd(acc, psd[j], latab);
-        j += 1;
     }
     acc
 }
 
 // The power of a band, over the bins that the channel has of it.
-fn band_power(psd: &[i32; 256], latab: &[u8], start: Bin, end: Bin, k: Band) -> i32
-    requires { (length latab.now ≡ 256) × Powers psd.now × (start.0 < end.0) × (end.0 ≤ 253) × (band_of start.0 ≤ k.0) × (k.0 < band_of (end.0 - 1) + 1) }
-    ensures { result ≡ band_power latab.now (λ j. get_or psd.now j (pos 0)) start.0 end.0 k.0 }
+#[tactic(auto, unfolding(crate::specs::Clauses::band_power))]
+fn band_power(psd: &[i32; 256], latab: &[u8; 256], bins: Bins, k: Band) -> i32
+    requires { Powers psd.now × (band_of bins.start.0 ≤ k.0) × (k.0 < band_of (bins.end.0 - 1) + 1) }
+    ensures { result ≡ band_power latab.now (λ j. get_or psd.now j (pos 0)) bins.start.0 bins.end.0 k.0 }
 {
-    let n = k.0;
-    let s = start.0;
-    let e = end.0;
-    let a = tables::start_of(k);
-    let b = tables::start_of(Band(n + 1));
-    let lo = later(a.0, s);
-    let hi = sooner(b.0, e);
-    band_sum(psd, latab, lo, hi)
+    let (lo, hi) = bins.of_band(k);
+    band_sum(psd, latab, lo.0, hi.0)
 }
 
 // Puts the powers of the bands that the channel has, into zeros.
-fn band_powers(psd: &[i32; 256], latab: &[u8], start: Bin, end: Bin, out: &mut [i32; 50])
-    requires { (length latab.now ≡ 256) × Powers psd.now × (start.0 < end.0) × (end.0 ≤ 253) × (out.old ≡ noughts 50) }
-    ensures { out.new ≡ band_powers latab.now (λ j. get_or psd.now j (pos 0)) start.0 end.0 (band_of (end.0 - 1) + 1) }
+fn band_powers(psd: &[i32; 256], latab: &[u8; 256], bins: Bins, out: &mut [i32; 50])
+    requires { Powers psd.now × (out.old ≡ noughts 50) }
+    ensures { out.new ≡ band_powers latab.now (λ j. get_or psd.now j (pos 0)) bins.start.0 bins.end.0 (band_of (bins.end.0 - 1) + 1) }
 {
-    let e = end.0;
-    let first = tables::band_of(start);
-    let last = tables::band_of(Bin(e - 1));
-    let stop = last.0 + 1;
-    let mut k = first.0;
-    while k < stop {
-        let x = band_power(psd, latab, start, end, Band(k));
-        out[k] = x;
-        k += 1;
+    let (first, stop) = bins.bands();
+    for k in first.0..stop.0 {
+        out[k] = band_power(psd, latab, bins, Band(k));
     }
 }
 
@@ -308,18 +263,21 @@ fn lowered(a: i32, by: i32) -> i32
     requires { Low a × Low by }
     ensures { result ≡ max_z (a -ℤ by) (pos 0) }
 {
-    larger(a - by, 0)
+    (a - by).max(0)
 }
 
 // 6.2.2.4: whether the next band's power is 256 above.
+// b0 and b1 by their names in TS 6.2.2.4.
+#[tactic(auto, unfolding(crate::specs::Clauses::rises))]
 fn rises(b0: i32, b1: i32) -> bool
     requires { Sum b0 × Sum b1 }
     ensures { result ≡ rises_of b0 b1 }
 {
-    if b0 + 256 == b1 { true } else { false }
+    b0 + 256 == b1
 }
 
 // The low-frequency compensation after a band of power b0, whose next has b1.
+#[tactic(auto, unfolding(crate::specs::Clauses::low_step))]
 fn low_step(peak: i32, a: i32, b0: i32, b1: i32) -> i32
     requires { Low a × Sum b0 × Sum b1 }
     ensures { result ≡ low_step peak a b0 b1 }
@@ -334,6 +292,7 @@ fn low_step(peak: i32, a: i32, b0: i32, b1: i32) -> i32
 }
 
 // The same by band: its peak falls at band 7, and from band 20 on it fades.
+#[tactic(auto, unfolding(crate::specs::Clauses::calc_lowcomp))]
 fn calc_lowcomp(a: i32, b0: i32, b1: i32, band: Band) -> i32
     requires { Low a × Sum b0 × Sum b1 }
     ensures { result ≡ calc_lowcomp a b0 b1 band.0 }
@@ -349,6 +308,9 @@ fn calc_lowcomp(a: i32, b0: i32, b1: i32, band: Band) -> i32
 }
 
 // The LFE's last band has no next one to compare with, and keeps the compensation.
+// q is there for every band: `last` says that it is none of the channel's, as the definition has it. The steps below are functions of curve and
+// carried values in the order of their definitions, and no methods.
+#[tactic(auto, unfolding(crate::specs::Excite::low_next))]
 fn low_next(last: bool, low: i32, p: i32, q: i32, k: Band) -> i32
     requires { Low low × Sum p × Sum q }
     ensures { result ≡ low_next last low p q k.0 }
@@ -364,7 +326,7 @@ fn decay_to(leak: i32, decay: i32, power: i32, gain: i32) -> i32
     requires { Sum leak × Gain decay × Sum power × Gain gain }
     ensures { result ≡ decayed leak decay power gain }
 {
-    larger(leak - decay, power - gain)
+    (power - gain).max(leak - decay)
 }
 
 // Bands 0 and 1: the leaks have not begun.
@@ -372,16 +334,11 @@ fn step_first(c: Curve, p: i32, low: i32, s: Carried) -> Carried
     requires { Sum p × Gain c.fgain × Gain low }
     ensures { result ≡ step_first c p low s }
 {
-    let fast = s.fast;
-    let slow = s.slow;
-    let gain = c.fgain;
-    let out = p - gain - low;
     Carried {
-        fast: fast,
-        slow: slow,
-        low: low,
-        out: out,
+        low,
+        out: p - c.fgain - low,
         begun: false,
+        ..s
     }
 }
 
@@ -389,10 +346,7 @@ fn step_first(c: Curve, p: i32, low: i32, s: Carried) -> Carried
 fn begins(last: bool, p: i32, q: i32) -> bool
     ensures { result ≡ (not last && le_z p q) }
 {
-    if last {
-        return false;
-    }
-    p <= q
+    !last && p <= q
 }
 
 // A band of 2 to 6 before the leaks decay.
@@ -400,18 +354,14 @@ fn step_begin(c: Curve, p: i32, q: i32, low: i32, last: bool) -> Carried
     requires { Sum p × Tame c × Low low }
     ensures { result ≡ step_begin c p q low last }
 {
-    let fg = c.fgain;
-    let sg = c.sgain;
-    let fast = p - fg;
-    let slow = p - sg;
-    let out = fast - low;
-    let begun = begins(last, p, q);
+    let fast = p - c.fgain;
+    let slow = p - c.sgain;
     Carried {
-        fast: fast,
-        slow: slow,
-        low: low,
-        out: out,
-        begun: begun,
+        fast,
+        slow,
+        low,
+        out: fast - low,
+        begun: begins(last, p, q),
     }
 }
 
@@ -420,46 +370,30 @@ fn step_low(c: Curve, p: i32, low: i32, s: Carried) -> Carried
     requires { Sum p × Tame c × Kept s × Low low }
     ensures { result ≡ step_low c p low s }
 {
-    let f = s.fast;
-    let w = s.slow;
-    let fd = c.fdecay;
-    let fg = c.fgain;
-    let sd = c.sdecay;
-    let sg = c.sgain;
-    let fast = decay_to(f, fd, p, fg);
-    let slow = decay_to(w, sd, p, sg);
-    let out = larger(fast - low, slow);
+    let fast = decay_to(s.fast, c.fdecay, p, c.fgain);
+    let slow = decay_to(s.slow, c.sdecay, p, c.sgain);
     Carried {
-        fast: fast,
-        slow: slow,
-        low: low,
-        out: out,
+        fast,
+        slow,
+        low,
+        out: slow.max(fast - low),
         begun: true,
     }
 }
 
 // A band from 22 on, or any of a channel that does not begin at band 0.
+// Beside `step_low`: no compensation is taken off, and what was begun stays.
 fn step_high(c: Curve, p: i32, s: Carried) -> Carried
     requires { Sum p × Tame c × Kept s }
     ensures { result ≡ step_high c p s }
 {
-    let f = s.fast;
-    let w = s.slow;
-    let low = s.low;
-    let begun = s.begun;
-    let fd = c.fdecay;
-    let fg = c.fgain;
-    let sd = c.sdecay;
-    let sg = c.sgain;
-    let fast = decay_to(f, fd, p, fg);
-    let slow = decay_to(w, sd, p, sg);
-    let out = larger(fast, slow);
+    let fast = decay_to(s.fast, c.fdecay, p, c.fgain);
+    let slow = decay_to(s.slow, c.sdecay, p, c.sgain);
     Carried {
-        fast: fast,
-        slow: slow,
-        low: low,
-        out: out,
-        begun: begun,
+        fast,
+        slow,
+        out: slow.max(fast),
+        ..s
     }
 }
 
@@ -467,25 +401,21 @@ fn step_high(c: Curve, p: i32, s: Carried) -> Carried
 fn opening(k: usize, begun: bool) -> bool
     ensures { result ≡ (ltb k 7 && not begun) }
 {
-    if k < 7 {
-        return !begun;
-    }
-    false
+    k < 7 && !begun
 }
 
 // A band below 22 of a channel that begins at band 0.
+// A test and no kind of step: which it is depends on the band and on what was carried.
 fn step_full(c: Curve, last: bool, p: i32, q: i32, k: Band, s: Carried) -> Carried
     requires { Sum p × Sum q × Tame c × Kept s }
     ensures { result ≡ step_full c last p q k.0 s }
 {
     let n = k.0;
-    let begun = s.begun;
-    let before = s.low;
-    let low = low_next(last, before, p, q, k);
+    let low = low_next(last, s.low, p, q, k);
     if n < 2 {
         return step_first(c, p, low, s);
     }
-    if opening(n, begun) {
+    if opening(n, s.begun) {
         return step_begin(c, p, q, low, last);
     }
     step_low(c, p, low, s)
@@ -495,20 +425,15 @@ fn step_full(c: Curve, last: bool, p: i32, q: i32, k: Band, s: Carried) -> Carri
 fn is_low(first: usize, k: usize) -> bool
     ensures { result ≡ (eqb first 0 && ltb k 22) }
 {
-    if first == 0 {
-        return k < 22;
-    }
-    false
+    first == 0 && k < 22
 }
 
 // Whether the band is the last of the LFE channel, which has 7.
+// By its numbers, as `step` tells it: `allocate` is handed no kind of channel.
 fn is_last(end: usize, k: usize) -> bool
     ensures { result ≡ (eqb end 7 && eqb k 6) }
 {
-    if end == 7 {
-        return k == 6;
-    }
-    false
+    end == 7 && k == 6
 }
 
 // A band's step.
@@ -517,43 +442,38 @@ fn excite_step(c: Curve, first: Band, end: Band, bnd: &[i32; 50], k: Band, s: Ca
     ensures { result ≡ step c first.0 end.0 (λ j. get_or bnd.now j (pos 0)) k.0 s }
 {
     let n = k.0;
-    let f = first.0;
-    let e = end.0;
     let p = bnd[n];
-    if is_low(f, n) {
-        let q = bnd[n + 1];
-        let last = is_last(e, n);
-        return step_full(c, last, p, q, k, s);
+    if is_low(first.0, n) {
+        let last = is_last(end.0, n);
+        return step_full(c, last, p, bnd[n + 1], k, s);
     }
     step_high(c, p, s)
 }
 
 // Puts the excitation of the bands from first to end, into zeros.
+// First and end are handed on apart: each loop needs them for its range alone.
 fn excitation(c: Curve, first: Band, end: Band, bnd: &[i32; 50], s0: Carried, out: &mut [i32; 50])
     requires { (first.0 ≤ end.0) × (end.0 ≤ 50) × BandPowers bnd.now × Tame c × Kept s0 × (out.old ≡ noughts 50) }
     ensures { out.new ≡ excite_of c first.0 end.0 (λ j. get_or bnd.now j (pos 0)) s0 end.0 }
 {
     let mut s = s0;
-    let mut k = first.0;
-    let e = end.0;
-    while k < e {
+    for k in first.0..end.0 {
         s = excite_step(c, first, end, bnd, Band(k), s);
-        let x = s.out;
-        out[k] = x;
-        k += 1;
+        out[k] = s.out;
     }
 }
 
 // 6.2.2.5: a band's mask.
+#[tactic(auto, unfolding(crate::specs::Clauses::mask_at))]
 fn mask_at(excite: i32, power: i32, knee: i32, hth: u16) -> i32
     requires { Excited excite × Sum power × Knee knee }
     ensures { result ≡ mask_at excite power knee hth }
 {
     let h = hth as i32;
     if power < knee {
-        return larger(excite + ((knee - power) >> 2), h);
+        return h.max(excite + ((knee - power) >> 2));
     }
-    larger(excite, h)
+    h.max(excite)
 }
 
 // Puts the masks of the bands from first to end, into zeros.
@@ -561,25 +481,22 @@ fn masks(
     excite: &[i32; 50],
     power: &[i32; 50],
     knee: i32,
-    hearing: &[u16],
+    hearing: &[u16; 150],
     fscod: usize,
     first: Band,
     end: Band,
     out: &mut [i32; 50],
 )
-    requires { (length hearing.now ≡ 150) × (fscod ≤ 2) × (first.0 ≤ end.0) × (end.0 ≤ 50) × Excitations excite.now × Sums power.now × Knee knee × (out.old ≡ noughts 50) }
+    requires { (fscod ≤ 2) × (first.0 ≤ end.0) × (end.0 ≤ 50) × Excitations excite.now × Sums power.now × Knee knee × (out.old ≡ noughts 50) }
     ensures { out.new ≡ masks_of (λ j. get_or excite.now j (pos 0)) (λ j. get_or power.now j (pos 0)) knee hearing.now fscod first.0 end.0 }
 {
-    let mut k = first.0;
-    let e = end.0;
-    while k < e {
-        let x = mask_at(excite[k], power[k], knee, hearing[50 * fscod + k]);
-        out[k] = x;
-        k += 1;
+    for k in first.0..end.0 {
+        out[k] = mask_at(excite[k], power[k], knee, hearing[50 * fscod + k]);
     }
 }
 
 // 6.2.2.6: a segment's step, by deltba.
+#[tactic(auto, unfolding(crate::specs::Clauses::delta_of))]
 fn delta_of(ba: u8) -> i32
     requires { ba < 8 }
     ensures { result ≡ delta_of ba }
@@ -593,21 +510,17 @@ fn delta_of(ba: u8) -> i32
 
 // Adds the step to the masks of the bands from a to b. Bands past 49 are skipped.
 fn add_segment(mask: &mut [i32; 50], delta: i32, a: usize, b: usize)
-    requires { ShiftedMasks mask.old × (length mask.old ≡ 50) × Shift delta × (a ≤ b) × (b ≤ 1024) }
+    requires { ShiftedMasks mask.old × Shift delta × (a ≤ b) × (b ≤ 1024) }
     ensures { mask.new ≡ add_segment delta a b mask.old }
 {
-    let mut k = sooner(a, 50);
-    let e = sooner(b, 50);
-    while k < e {
-        let x = mask[k] + delta;
-        mask[k] = x;
-        k += 1;
+    for k in a.min(50)..b.min(50) {
+        mask[k] += delta;
     }
 }
 
 // One more segment: it begins at the band where the last one ended, and the answer is where it ends.
 fn next_segment(mask: &mut [i32; 50], band: usize, off: u8, len: u8, ba: u8) -> usize
-    requires { ShiftedMasks mask.old × (length mask.old ≡ 50) × (band ≤ 512) × (off ≤ 31) × (len ≤ 15) × (ba < 8) }
+    requires { ShiftedMasks mask.old × (band ≤ 512) × (off ≤ 31) × (len ≤ 15) × (ba < 8) }
     ensures { (mask.new ≡ add_segment (delta_of ba) (band + off) (band + off + len) mask.old) × (result ≡ band + off + len) }
 {
     let a = band + (off as usize);
@@ -618,15 +531,13 @@ fn next_segment(mask: &mut [i32; 50], band: usize, off: u8, len: u8, ba: u8) -> 
 }
 
 // Adds the segments to the masks. They run from band 0.
-fn deltas(mask: &mut [i32; 50], offs: &[u8; 8], lens: &[u8; 8], bas: &[u8; 8], count: usize)
-    requires { Masks mask.old × (length mask.old ≡ 50) × (count ≤ 8) × Upto 32 offs.now count × Upto 16 lens.now count × Upto 8 bas.now count }
-    ensures { mask.new ≡ deltas_of offs.now lens.now bas.now mask.old count }
+fn deltas(mask: &mut [i32; 50], d: Delta)
+    requires { Masks mask.old × Segments d }
+    ensures { mask.new ≡ deltas_of d.offset d.len d.ba mask.old d.count }
 {
     let mut band: usize = 0;
-    let mut n: usize = 0;
-    while n < count {
-        band = next_segment(mask, band, offs[n], lens[n], bas[n]);
-        n += 1;
+    for n in 0..d.count as usize {
+        band = next_segment(mask, band, d.offset[n], d.len[n], d.ba[n]);
     }
 }
 
@@ -635,7 +546,7 @@ fn mask_step(mask: i32, snr: i32, floor: i32) -> i32
     requires { ShiftedMask mask × Snr snr × Floor floor }
     ensures { result ≡ mask_step mask snr floor }
 {
-    let m = larger(mask - snr - floor, 0);
+    let m = (mask - snr - floor).max(0);
     let n = (m as usize) % 8192 / 32 * 32;
     (n as i32) + floor
 }
@@ -653,125 +564,84 @@ fn address(psd: i32, m: i32) -> usize
     requires { Power psd × Cut m }
     ensures { (result ≡ address_of psd m) × (result < 64) }
 {
-    let d = above(psd, m);
-    if d < 0 {
-        return 0;
-    }
-    if d > 63 {
-        return 63;
-    }
-    d as usize
+    above(psd, m).clamp(0, 63) as usize
 }
 
 // Puts the pointers of the bins from lo to hi, which share the mask m.
 fn point(out: &mut [u8; 256], baptab: &[u8; 64], psd: &[i32; 256], m: i32, lo: usize, hi: usize)
-    requires { Powers psd.now × Cut m × (lo ≤ hi) × (hi ≤ 256) × (length out.old ≡ 256) }
+    requires { Powers psd.now × Cut m × (lo ≤ hi) × (hi ≤ 256) }
     ensures { out.new ≡ pointed baptab.now (λ j. get_or psd.now j (pos 0)) m lo hi out.old }
 {
-    let mut i = lo;
-    while i < hi {
-        let at = address(psd[i], m);
-        out[i] = baptab[at];
-        i += 1;
+    for i in lo..hi {
+        out[i] = baptab[address(psd[i], m)];
     }
 }
 
-// Puts the pointers of the bins from start to end, into zeros: band by band, since a band's bins share a mask.
+// Puts the pointers of a channel's bins, into zeros: band by band, since a band's bins share a mask.
 fn baps(
     baptab: &[u8; 64],
     psd: &[i32; 256],
     mask: &[i32; 50],
     snr: i32,
     floor: i32,
-    start: Bin,
-    end: Bin,
+    bins: Bins,
     out: &mut [u8; 256],
 )
-    requires { Powers psd.now × ShiftedMasks mask.now × Snr snr × Floor floor × (start.0 ≤ end.0) × (end.0 ≤ 253) × (out.old ≡ zeros) }
-    ensures { out.new ≡ baps_of baptab.now (λ j. get_or psd.now j (pos 0)) (λ j. get_or mask.now j (pos 0)) snr floor start.0 end.0 }
+    requires { Powers psd.now × ShiftedMasks mask.now × Snr snr × Floor floor × (out.old ≡ zeros) }
+    ensures { out.new ≡ baps_of baptab.now (λ j. get_or psd.now j (pos 0)) (λ j. get_or mask.now j (pos 0)) snr floor bins.start.0 bins.end.0 }
 {
-    let first = tables::band_of(start);
-    let mut k = first.0;
-    let mut i = start.0;
-    let e = end.0;
-    while i < e {
-        let next = tables::start_of(Band(k + 1));
-        let hi = sooner(next.0, e);
+    let (first, stop) = bins.bands();
+    for k in first.0..stop.0 {
+        let (lo, hi) = bins.of_band(Band(k));
         let m = mask_step(mask[k], snr, floor);
-        point(out, baptab, psd, m, i, hi);
-        i = hi;
-        k += 1;
+        point(out, baptab, psd, m, lo.0, hi.0);
     }
 }
 
 // 6.2.2.3 to 6.2.2.5: puts the masks of a channel's bands, into zeros.
+// Two arrays: the second is made out of the first, a band with its next one. The two tables of TS go on as two arguments: a struct of them
+// would be taken apart in the next call.
 fn channel_masks(
     psd: &[i32; 256],
-    latab: &[u8],
-    hearing: &[u16],
-    start: Bin,
-    end: Bin,
-    c: Curve,
-    s0: Carried,
-    knee: i32,
-    fscod: usize,
+    latab: &[u8; 256],
+    hearing: &[u16; 150],
+    bins: Bins,
+    p: Parameters,
     mask: &mut [i32; 50],
 )
-    requires { (length latab.now ≡ 256) × (length hearing.now ≡ 150) × (start.0 < end.0) × (end.0 ≤ 253) × (fscod ≤ 2) × Powers psd.now × Tame c × Kept s0 × Knee knee × (mask.old ≡ noughts 50) }
-    ensures { (mask.new ≡ masks_from psd.now latab.now hearing.now start.0 end.0 c s0 knee fscod) × Masks mask.new }
+    requires { Powers psd.now × Decoded p × (mask.old ≡ noughts 50) }
+    ensures { (mask.new ≡ masks_from psd.now latab.now hearing.now bins.start.0 bins.end.0 p.curve p.begun p.levels.knee p.levels.fscod) × Masks mask.new }
 {
-    let e = end.0;
-    let first = tables::band_of(start);
-    let last = tables::band_of(Bin(e - 1));
-    let stop = Band(last.0 + 1);
+    let v = p.levels;
+    let (first, stop) = bins.bands();
     let mut power: [i32; 50] = [0; 50];
     let mut excite: [i32; 50] = [0; 50];
-    band_powers(psd, latab, start, end, &mut power);
-    excitation(c, first, stop, &power, s0, &mut excite);
-    masks(&excite, &power, knee, hearing, fscod, first, stop, mask);
+    band_powers(psd, latab, bins, &mut power);
+    excitation(p.curve, first, stop, &power, p.begun, &mut excite);
+    masks(&excite, &power, v.knee, hearing, v.fscod, first, stop, mask);
 }
 
 // 6.2.2.2 to 6.2.2.7: puts the pointers of a channel, into zeros.
+#[tactic(auto, unfolding(crate::specs::Channel::pointers_of))]
 fn pointers_of(
     exp: &[u8; 256],
-    latab: &[u8],
-    hearing: &[u16],
+    latab: &[u8; 256],
+    hearing: &[u16; 150],
     baptab: &[u8; 64],
-    start: Bin,
-    end: Bin,
-    c: Curve,
-    s0: Carried,
-    v: Levels,
-    d: Delta,
+    bins: Bins,
+    p: Parameters,
     out: &mut [u8; 256],
 )
-    requires { (length latab.now ≡ 256) × (length hearing.now ≡ 150) × (start.0 < end.0) × (end.0 ≤ 253) × (upto 24 exp.now start.0 (end.0 - start.0) ≡ true) × Tame c × Kept s0 × Level v × Segments d × (out.old ≡ zeros) }
-    ensures { out.new ≡ pointers_of exp.now latab.now hearing.now baptab.now start.0 end.0 c s0 v d }
+    requires { (upto 24 exp.now bins.start.0 (bins.end.0 - bins.start.0) ≡ true) × Decoded p × (out.old ≡ zeros) }
+    ensures { out.new ≡ pointers_of exp.now latab.now hearing.now baptab.now bins.start.0 bins.end.0 p.curve p.begun p.levels p.delta }
 {
-    let a = start.0;
-    let e = end.0;
-    let knee = v.knee;
-    let floor = v.floor;
-    let snr = v.snr;
-    let fscod = v.fscod;
-    let offs = d.offset;
-    let lens = d.len;
-    let bas = d.ba;
-    let count = d.count as usize;
+    let v = p.levels;
     let mut psd: [i32; 256] = [0; 256];
     let mut m: [i32; 50] = [0; 50];
-    powers(exp, a, e, &mut psd);
-    channel_masks(&psd, latab, hearing, start, end, c, s0, knee, fscod, &mut m);
-    deltas(&mut m, &offs, &lens, &bas, count);
-    baps(baptab, &psd, &m, snr, floor, start, end, out);
-}
-
-// A channel that is refused.
-fn refused(why: Why) -> Ended
-    ensures { ended_of result ≡ refused_of (grounds (number_of why) 0) }
-{
-    let r = Refusal { why: why, bit: 0 };
-    Ended::Refused(r)
+    powers(exp, bins, &mut psd);
+    channel_masks(&psd, latab, hearing, bins, p, &mut m);
+    deltas(&mut m, p.delta);
+    baps(baptab, &psd, &m, v.snr, v.floor, bins, out);
 }
 
 // A channel whose parameters are decoded, into zeros.
@@ -779,32 +649,39 @@ fn channel(
     exp: &[u8; 256],
     start: Bin,
     end: Bin,
-    c: Curve,
-    v: Levels,
-    s0: Carried,
-    d: Delta,
+    p: Parameters,
     which: Pointers,
-    hearing: &[u16],
-    latab: &[u8],
+    hearing: &[u16; 150],
+    latab: &[u8; 256],
     bap: &mut [u8; 256],
-) -> Ended
-    requires { (length latab.now ≡ 256) × (length hearing.now ≡ 150) × Tame c × Kept s0 × Level v × Segments d × (bap.old ≡ zeros) }
-    ensures { allocated_of result bap.new ≡ filled (channel_of exp.now start.0 end.0 c v s0 d which hearing.now latab.now) }
+) -> Result<(), Refusal>
+    requires { Decoded p × (bap.old ≡ zeros) }
+    ensures { ran_of result bap.new ≡ filled (channel_of exp.now start.0 end.0 p.curve p.levels p.begun p.delta which hearing.now latab.now) }
 {
     let a = start.0;
     let e = end.0;
     if e <= a {
-        return Ended::Done;
+        return Ok(());
     }
     if e > 253 {
-        return refused(Why::BadArgument);
+        return Err(Why::BadArgument.at(0));
     }
     if !tables::all_upto(exp, a, e, 24) {
-        return refused(Why::ExponentOutside);
+        return Err(Why::ExponentOutside.at(0));
     }
     let baptab = tables::table_of(which);
-    pointers_of(exp, latab, hearing, &baptab, start, end, c, s0, v, d, bap);
-    Ended::Done
+    pointers_of(exp, latab, hearing, &baptab, Bins { start, end }, p, bap);
+    Ok(())
+}
+
+// The lent tables where they are fit, with the lengths that they are tested for.
+fn lent<'a>(hearing: &'a [u16], latab: &'a [u8]) -> Option<(&'a [u16; 150], &'a [u8; 256])>
+    ensures { MatchOption result (tables_fit hearing.now latab.now ≡ false) (λ t. (tables_fit hearing.now latab.now ≡ true) × (t.0.now ≡ hearing.now) × (t.1.now ≡ latab.now)) }
+{
+    if !tables::tables_fit(hearing, latab) {
+        return None;
+    }
+    Some((hearing.as_array()?, latab.as_array()?))
 }
 
 // Puts the pointers of one channel alone, and zeros outside the range and on refusal: 21 for unfit tables, 11 for a code past its table,
@@ -814,34 +691,17 @@ pub fn allocate(
     start: Bin,
     end: Bin,
     codes: Codes,
-    leak: Leak,
+    leak: Option<Leak>,
     delta: Delta,
     which: Pointers,
     hearing: &[u16],
     latab: &[u8],
     bap: &mut [u8; 256],
-) -> Ended
-    ensures { allocated_of result bap.new ≡ allocate_of exp.now start.0 end.0 codes leak delta which hearing.now latab.now }
+) -> Result<(), Refusal>
+    ensures { ran_of result bap.new ≡ allocate_of exp.now start.0 end.0 codes leak delta which hearing.now latab.now }
 {
-    let zeros: [u8; 256] = [0; 256];
-    *bap = zeros;
-    if !tables::tables_fit(hearing, latab) {
-        return refused(Why::BadTables);
-    }
-    let x = curve_of(codes);
-    let Curved::Of(c) = x else {
-        return refused(Why::CodePastTable);
-    };
-    let y = levels_of(codes);
-    let Leveled::Of(v) = y else {
-        return refused(Why::CodePastTable);
-    };
-    let z = begun_of(leak);
-    let Begun::Of(s) = z else {
-        return refused(Why::CodePastTable);
-    };
-    if !tables::delta_fits(delta) {
-        return refused(Why::CodePastTable);
-    }
-    channel(exp, start, end, c, v, s, delta, which, hearing, latab, bap)
+    *bap = [0; 256];
+    let (hearing, latab) = lent(hearing, latab).ok_or(Why::BadTables.at(0))?;
+    let p = decoded(codes, leak, delta).ok_or(Why::CodePastTable.at(0))?;
+    channel(exp, start, end, p, which, hearing, latab, bap)
 }

@@ -2,31 +2,8 @@
 -- (position plus width) past either buffer; a refused set changes nothing, and a set takes the value's low bits."
 -- There is no cursor here, so a refusal's bit is 0. Assumes nothing.
 use Rattle.std.specs.Prelude.{ℕ, ◌+◌, ◌*◌, List, Bool, length, ltb, eqb}
-use Rattle.refusal.specs.Refusals.{Outcome, taken, told, refuse_if, past_limit, past_either, and_then, Ran, settle}
-use Rattle.bits.specs.declared.Got.{Got}
-use Rattle.bits.specs.declared.Got.TheVariants as got
-use Rattle.bits.specs.declared.Put.{Put}
-use Rattle.bits.specs.declared.Put.TheVariants as put
-use Rattle.bits.specs.declared.Judged.{Judged}
-use Rattle.bits.specs.declared.Judged.TheVariants as judged
+use Rattle.refusal.specs.Refusals.{Outcome, taken, refuse_if, past_limit, past_either, and_then, Ran, settle}
 use Rattle.bits.specs.Bits.{bits_at, set_bits}
-
--- what each answer means
-abbrev pub got_of : Got → Outcome ℕ
-got_of (got.Value v) = taken v
-got_of (got.Refused r) = told r
-
-abbrev pub done_of : Put → Outcome Unit
-done_of put.Done = taken tt
-done_of (put.Refused r) = told r
-
-abbrev pub judged_of : Judged → Outcome Bool
-judged_of (judged.Is t) = taken t
-judged_of (judged.Refused r) = told r
-
--- an answer to a set, with the bytes as they are after it
-abbrev pub put_of : Put → List ℕ → Ran (List ℕ) Unit
-put_of p bs = record { outcome = done_of p; state = bs }
 
 -- the n bits from pos on pass the end of len bytes
 abbrev pub beyond : ℕ → ℕ → ℕ → Bool

@@ -1,82 +1,31 @@
 // Bits over lent bytes, most significant first: read, set, compare.
-//
-// A position may be any usize, so that position + width can pass one: the functions below work on a byte and an offset in it.
 #![tactic(auto)]
 
 ghost use Rattle.std.specs.Prelude.{◌≡◌, ◌+◌, ◌-◌, ◌*◌, ◌/◌, ◌%◌, ◌^◌, ◌≤◌, ◌<◌, length, eqb};
-ghost use Rattle.refusal.specs.Refusals.{grounds_of, grounds};
+ghost use Rattle.refusal.specs.Refusals.{grounds_of, grounds, outcome_of, ran_of};
 ghost use Rattle.bits.specs.Bits.{bits_at, with_bit, set_bit, set_bits};
-ghost use Rattle.bits.specs.Answers.{beyond, got_of, done_of, put_of, judged_of, fit_of, get_of, set_of, range_eq_of, range_zero_of};
+ghost use Rattle.bits.specs.Answers.{beyond, fit_of, get_of, set_of, range_eq_of, range_zero_of};
 
 use refusal::{Refusal, Why};
 
-// What reading answers.
-#[derive(Clone, Copy)]
-pub enum Got {
-    Value(u32),
-    Refused(Refusal),
-}
-
-// What setting answers.
-#[derive(Clone, Copy)]
-pub enum Put {
-    Done,
-    Refused(Refusal),
-}
-
-// What comparing answers.
-#[derive(Clone, Copy)]
-pub enum Judged {
-    Is(bool),
-    Refused(Refusal),
-}
-
-// Refusal 6: a width above 32.
-fn wide() -> Refusal
-    ensures { grounds_of result ≡ grounds 6 0 }
-{
-    Refusal {
-        why: Why::BadArgument,
-        bit: 0,
-    }
-}
-
-// Refusal 1: a range past the end of its buffer.
-fn past() -> Refusal
-    ensures { grounds_of result ≡ grounds 1 0 }
-{
-    Refusal {
-        why: Why::PastLimit,
-        bit: 0,
-    }
-}
-
-// Refusal 1 where either of two ranges is past the end of its buffer.
-fn past_either() -> Refusal
-    ensures { grounds_of result ≡ grounds 1 0 }
-{
-    past()
-}
-
 // Whether the n bits from pos on pass the end of len bytes. The sum pos + n may pass a usize, so whole bytes and rests are added apart.
+// Bytes, position and width come apart, here and below, as C and the public functions have them.
 fn passes(len: usize, pos: usize, n: usize) -> bool
     ensures { result ≡ beyond len pos n }
 {
-    let need = pos / 8 + n / 8 + (pos % 8 + n % 8 + 7) / 8;
-    if len < need { true } else { false }
+    len < pos / 8 + n / 8 + (pos % 8 + n % 8 + 7) / 8
 }
 
 // The bytes from first on, count of them, as one number.
+// First and count beside the bytes: the clause is over the bits of the whole.
 fn gather(s: &[u8], first: usize, count: usize) -> u64
     requires count_bound { count ≤ 8 }
     requires count_in_bounds { first + count ≤ length s.now }
     ensures { result ≡ bits_at s.now (8 * first) (8 * count) }
 {
     let mut v: u64 = 0;
-    let mut i = 0;
-    while i < count {
-        v = v * 256 + s[first + i] as u64;
-        i += 1;
+    for x in &s[first..first + count] {
+        v = v * 256 + *x as u64;
     }
     v
 }
@@ -90,70 +39,115 @@ fn cut(v: u64, spare: usize, n: usize) -> u32
     ((v >> spare) % top) as u32
 }
 
-// The n bits after the first off of byte first, where there are five bytes, which is as many as they touch.
-fn early(s: &[u8], first: usize, off: usize, n: usize) -> u32
-    requires off_bound { off < 8 }
-    requires n_bound { n ≤ 32 }
-    requires first_in_bounds { first + 5 ≤ length s.now }
-    ensures { result ≡ bits_at s.now (8 * first + off) n }
-{
-    cut(gather(s, first, 5), 40 - off - n, n)
+// A bit of lent bytes, as a byte and an offset in it: a position may be any usize, so that position + width can pass one.
+// A width is a number beside its place: `get` and `set` test it for their callers, and each function below says of it what it needs.
+#[derive(Clone, Copy)]
+struct Spot<'a> {
+    bytes: &'a [u8],
+    first: usize,
+    off: usize,
+    ghost narrow: { off < 8 },
 }
 
-// The same among the last bytes.
-fn late(s: &[u8], first: usize, off: usize, n: usize) -> u32
-    requires off_bound { (off < 8) × (n ≤ 32) }
-    requires s_len_bound { length s.now < first + 5 }
-    requires n_bound { 8 * first + off + n ≤ 8 * length s.now }
-    ensures { result ≡ bits_at s.now (8 * first + off) n }
-{
-    let rest = s.len() - first;
-    cut(gather(s, first, rest), rest * 8 - off - n, n)
+impl<'a> Spot<'a> {
+    // The bit at a position.
+    fn at(bytes: &'a [u8], pos: usize) -> Spot<'a>
+        ensures { (result.bytes ≡ bytes.entry) × (result.first ≡ pos / 8) × (result.off ≡ pos % 8) }
+    {
+        Spot {
+            bytes,
+            first: pos / 8,
+            off: pos % 8,
+        }
+    }
+
+    // The bit that stands so many bytes on.
+    fn on(self, count: usize) -> Spot<'a>
+        requires { self.first + count < 2 ^ 64 }
+        ensures { (result.bytes ≡ self.entry.bytes) × (result.first ≡ self.entry.first + count) × (result.off ≡ self.entry.off) }
+    {
+        Spot {
+            bytes: self.bytes,
+            first: self.first + count,
+            off: self.off,
+        }
+    }
+
+    // The n bits from here on, where there are five bytes, which is as many as they touch.
+    // Apart from `late`, since five bytes are taken without a loop over their count.
+    #[tactic(auto, using(crate::proofs::Laws::bits_at_cut))]
+    fn early(self, n: usize) -> u32
+        requires n_bound { n ≤ 32 }
+        requires five { self.first + 5 ≤ length self.bytes.now }
+        ensures { result ≡ bits_at self.entry.bytes.now (8 * self.entry.first + self.entry.off) n }
+    {
+        cut(gather(self.bytes, self.first, 5), 40 - self.off - n, n)
+    }
+
+    // The same among the last bytes.
+    fn late(self, n: usize) -> u32
+        requires n_bound { n ≤ 32 }
+        requires last { length self.bytes.now < self.first + 5 }
+        requires inside { 8 * self.first + self.off + n ≤ 8 * length self.bytes.now }
+        ensures { result ≡ bits_at self.entry.bytes.now (8 * self.entry.first + self.entry.off) n }
+    {
+        let rest = self.bytes.len() - self.first;
+        cut(
+            gather(self.bytes, self.first, rest),
+            rest * 8 - self.off - n,
+            n,
+        )
+    }
+
+    // The n bits from here on.
+    fn word(self, n: usize) -> u32
+        requires n_bound { n ≤ 32 }
+        requires inside { 8 * self.first + self.off + n ≤ 8 * length self.bytes.now }
+        ensures { result ≡ bits_at self.entry.bytes.now (8 * self.entry.first + self.entry.off) n }
+    {
+        if 5 <= self.bytes.len() - self.first {
+            return self.early(n);
+        }
+        self.late(n)
+    }
+
+    // The 56 bits from here on, out of the eight bytes that begin here.
+    fn seven(self) -> u64
+        requires { self.first + 8 ≤ length self.bytes.now }
+        ensures { result ≡ bits_at self.entry.bytes.now (8 * self.entry.first + self.entry.off) 56 }
+    {
+        (gather(self.bytes, self.first, 8) >> (8 - self.off)) % 0x100_0000_0000_0000
+    }
 }
 
-// The n bits after the first off of byte first.
-fn word(s: &[u8], first: usize, off: usize, n: usize) -> u32
-    requires off_bound { off < 8 }
-    requires n_bound { n ≤ 32 }
-    requires n_bound_2 { 8 * first + off + n ≤ 8 * length s.now }
-    ensures { result ≡ bits_at s.now (8 * first + off) n }
+// Whether width bits from pos on of len bytes may be read or set: 6 for a width above 32, then 1 for a range past the end.
+fn fit(len: usize, pos: usize, width: usize) -> Result<(), Refusal>
+    ensures { outcome_of result ≡ fit_of len pos width }
 {
-    let rest = s.len() - first;
-    if 5 <= rest {
-        return early(s, first, off, n);
+    if 32 < width {
+        return Err(Why::BadArgument.at(0));
     }
-    late(s, first, off, n)
-}
-
-// Whether the n bits from pos on of len bytes may be read or set: 6 for a width above 32, then 1 for a range past the end.
-fn fit(len: usize, pos: usize, n: usize) -> Put
-    ensures { done_of result ≡ fit_of len pos n }
-{
-    let too_wide = 32 < n;
-    let past_end = passes(len, pos, n);
-    if too_wide {
-        return Put::Refused(wide());
+    if passes(len, pos, width) {
+        return Err(Why::PastLimit.at(0));
     }
-    if past_end {
-        return Put::Refused(past());
-    }
-    Put::Done
+    Ok(())
 }
 
 // The n bits from pos on, or 6 for a width above 32, or 1 for a range past the end, which a range with five bytes is not.
-pub fn get(s: &[u8], pos: usize, n: usize) -> Got
-    ensures { got_of result ≡ get_of s.now pos n }
+pub fn get(s: &[u8], pos: usize, n: usize) -> Result<u32, Refusal>
+    ensures { outcome_of result ≡ get_of s.now pos n }
 {
     if 32 < n {
-        return Got::Refused(wide());
+        return Err(Why::BadArgument.at(0));
     }
-    if pos / 8 + 5 <= s.len() {
-        return Got::Value(early(s, pos / 8, pos % 8, n));
+    let spot = Spot::at(s, pos);
+    if spot.first + 5 <= s.len() {
+        return Ok(spot.early(n));
     }
     if passes(s.len(), pos, n) {
-        return Got::Refused(past());
+        return Err(Why::PastLimit.at(0));
     }
-    Got::Value(late(s, pos / 8, pos % 8, n))
+    Ok(spot.late(n))
 }
 
 // The byte x with its bit off, counted from the top, made b.
@@ -167,6 +161,7 @@ fn with_bit(x: u8, off: usize, b: u8) -> u8
 }
 
 // Bit off of byte at made b.
+#[tactic(auto, unfolding(crate::specs::Bits::set_bit))]
 fn put_bit(s: &mut [u8], at: usize, off: usize, b: u8)
     requires off_bound { off < 8 }
     requires b_bound { b < 2 }
@@ -178,76 +173,58 @@ fn put_bit(s: &mut [u8], at: usize, off: usize, b: u8)
 }
 
 // The n bits from pos on made the low bits of v, one bit a turn.
+// What each function needs of the range that it is lent is its one clause.
+#[tactic(auto, using(crate::proofs::SetLaws::set_bits_zero, crate::proofs::SetLaws::set_bits_turn))]
 fn put_word(s: &mut [u8], pos: usize, n: usize, v: u32)
     requires n_bound { n ≤ 32 }
     requires n_bound_2 { pos + n ≤ 8 * length s.old }
     ensures { s.new ≡ set_bits s.old pos n v }
 {
-    let mut i = 0;
-    while i < n {
+    for i in 0..n {
         let at = pos % 8 + i;
         let b = (v >> (n - 1 - i)) % 2;
         put_bit(s, pos / 8 + at / 8, at % 8, b as u8);
-        i += 1;
     }
 }
 
 // The n bits from pos on made the low bits of v, or 6 for a width above 32, or 1 for a range past the end, with nothing changed.
-pub fn set(s: &mut [u8], pos: usize, n: usize, v: u32) -> Put
-    ensures { put_of result s.new ≡ set_of s.old pos n v }
+pub fn set(s: &mut [u8], pos: usize, n: usize, v: u32) -> Result<(), Refusal>
+    ensures { ran_of result s.new ≡ set_of s.old pos n v }
 {
-    match fit(s.len(), pos, n) {
-        Put::Done => {
-            put_word(s, pos, n, v);
-            Put::Done
-        }
-        Put::Refused(r) => Put::Refused(r),
-    }
+    fit(s.len(), pos, n)?;
+    put_word(s, pos, n, v);
+    Ok(())
 }
 
-// Whether the n bits after the first xo of byte xf of x are those after the first yo of byte yf of y.
-fn same_word(x: &[u8], xf: usize, xo: usize, y: &[u8], yf: usize, yo: usize, n: usize) -> bool
-    requires xo_bound { (xo < 8) × ((yo < 8) × (n ≤ 32)) }
-    requires n_bound { 8 * xf + xo + n ≤ 8 * length x.now }
-    requires n_bound_2 { 8 * yf + yo + n ≤ 8 * length y.now }
-    ensures { result ≡ eqb (bits_at x.now (8 * xf + xo) n) (bits_at y.now (8 * yf + yo) n) }
+// Whether the n bits from x on are those from y on.
+fn same_word(x: Spot, y: Spot, n: usize) -> bool
+    requires n_bound { n ≤ 32 }
+    requires in_x { 8 * x.first + x.off + n ≤ 8 * length x.bytes.now }
+    requires in_y { 8 * y.first + y.off + n ≤ 8 * length y.bytes.now }
+    ensures { result ≡ eqb (bits_at x.entry.bytes.now (8 * x.entry.first + x.entry.off) n) (bits_at y.entry.bytes.now (8 * y.entry.first + y.entry.off) n) }
 {
-    word(x, xf, xo, n) == word(y, yf, yo, n)
+    x.word(n) == y.word(n)
 }
 
 // The same for fewer than 64 bits.
-fn same_rest(x: &[u8], xf: usize, xo: usize, y: &[u8], yf: usize, yo: usize, n: usize) -> bool
-    requires xo_bound { (xo < 8) × ((yo < 8) × (n < 64)) }
-    requires n_bound { 8 * xf + xo + n ≤ 8 * length x.now }
-    requires n_bound_2 { 8 * yf + yo + n ≤ 8 * length y.now }
-    ensures { result ≡ eqb (bits_at x.now (8 * xf + xo) n) (bits_at y.now (8 * yf + yo) n) }
+// Two words at most, so no loop over them.
+fn same_rest(x: Spot, y: Spot, n: usize) -> bool
+    requires n_bound { n < 64 }
+    requires in_x { 8 * x.first + x.off + n ≤ 8 * length x.bytes.now }
+    requires in_y { 8 * y.first + y.off + n ≤ 8 * length y.bytes.now }
+    ensures { result ≡ eqb (bits_at x.entry.bytes.now (8 * x.entry.first + x.entry.off) n) (bits_at y.entry.bytes.now (8 * y.entry.first + y.entry.off) n) }
 {
     if n <= 32 {
-        return same_word(x, xf, xo, y, yf, yo, n);
+        return same_word(x, y, n);
     }
-    if same_word(x, xf, xo, y, yf, yo, 32) {
-        return same_word(x, xf + 4, xo, y, yf + 4, yo, n - 32);
-    }
-    false
-}
-
-// The 56 bits after the first off of byte first, out of the eight bytes from there on.
-fn seven(s: &[u8], first: usize, off: usize) -> u64
-    requires off_bound { off < 8 }
-    requires first_in_bounds { first + 8 ≤ length s.now }
-    ensures { result ≡ bits_at s.now (8 * first + off) 56 }
-{
-    (gather(s, first, 8) >> (8 - off)) % 0x100_0000_0000_0000
+    same_word(x, y, 32) && same_word(x.on(4), y.on(4), n - 32)
 }
 
 // How many turns of 56 bits n bits take, of those that have eight bytes to read.
 fn turns(n: usize) -> usize
     ensures { result ≡ (n - 8) / 56 }
 {
-    if n < 8 {
-        return 0;
-    }
-    (n - 8) / 56
+    n.saturating_sub(8) / 56
 }
 
 // Whether the n bits of x from a on are those of y from b on, 56 bits a turn.
@@ -257,51 +234,48 @@ fn same_bits(x: &[u8], a: usize, y: &[u8], b: usize, n: usize) -> bool
     ensures { result ≡ eqb (bits_at x.now a n) (bits_at y.now b n) }
 {
     let whole = turns(n);
-    let mut k = 0;
-    while k < whole {
-        if seven(x, a / 8 + 7 * k, a % 8) != seven(y, b / 8 + 7 * k, b % 8) {
+    let left = Spot::at(x, a);
+    let right = Spot::at(y, b);
+    for k in 0..whole {
+        if left.on(7 * k).seven() != right.on(7 * k).seven() {
             return false;
         }
-        k += 1;
     }
-    same_rest(x, a / 8 + 7 * k, a % 8, y, b / 8 + 7 * k, b % 8, n - 56 * k)
+    same_rest(left.on(7 * whole), right.on(7 * whole), n - 56 * whole)
 }
 
 // Whether the n bits of x from a on are those of y from b on, or 1 for a range past its buffer.
-pub fn range_eq(x: &[u8], a: usize, y: &[u8], b: usize, n: usize) -> Judged
-    ensures { judged_of result ≡ range_eq_of x.now a y.now b n }
+pub fn range_eq(x: &[u8], a: usize, y: &[u8], b: usize, n: usize) -> Result<bool, Refusal>
+    ensures { outcome_of result ≡ range_eq_of x.now a y.now b n }
 {
-    if passes(x.len(), a, n) {
-        return Judged::Refused(past_either());
+    if passes(x.len(), a, n) || passes(y.len(), b, n) {
+        return Err(Why::PastLimit.at(0));
     }
-    if passes(y.len(), b, n) {
-        return Judged::Refused(past_either());
-    }
-    Judged::Is(same_bits(x, a, y, b, n))
+    Ok(same_bits(x, a, y, b, n))
 }
 
 // Whether the n bits of x from a on are all zero, 32 bits a turn.
+// Beside `same_bits`: a turn has another width, another reader and other buffers.
 fn zero_bits(x: &[u8], a: usize, n: usize) -> bool
     requires { a + n ≤ 8 * length x.now }
     ensures { result ≡ eqb (bits_at x.now a n) 0 }
 {
     let whole = n / 32;
-    let mut k = 0;
-    while k < whole {
-        if word(x, a / 8 + 4 * k, a % 8, 32) != 0 {
+    let spot = Spot::at(x, a);
+    for k in 0..whole {
+        if spot.on(4 * k).word(32) != 0 {
             return false;
         }
-        k += 1;
     }
-    word(x, a / 8 + 4 * k, a % 8, n % 32) == 0
+    spot.on(4 * whole).word(n % 32) == 0
 }
 
 // Whether the n bits of x from a on are all zero, or 1 for a range past the end.
-pub fn range_zero(x: &[u8], a: usize, n: usize) -> Judged
-    ensures { judged_of result ≡ range_zero_of x.now a n }
+pub fn range_zero(x: &[u8], a: usize, n: usize) -> Result<bool, Refusal>
+    ensures { outcome_of result ≡ range_zero_of x.now a n }
 {
     if passes(x.len(), a, n) {
-        return Judged::Refused(past());
+        return Err(Why::PastLimit.at(0));
     }
-    Judged::Is(zero_bits(x, a, n))
+    Ok(zero_bits(x, a, n))
 }

@@ -1,6 +1,6 @@
-pub mod Tests
 pub mod Cases
 pub mod Turns
+pub mod Held
 pub mod SideLaws
 pub mod Tiled
 pub mod Order

@@ -20,12 +20,13 @@ use Rattle.refusal.proofs.TestLaws.{and_left, and_right}
 use Rattle.tables.proofs.FitLaws.{upto_at}
 use Rattle.alloc.specs.declared.Codes.{Codes}
 use Rattle.alloc.specs.declared.Leak.{Leak}
-use Rattle.alloc.specs.declared.Leak.TheVariants as leak
 use Rattle.alloc.specs.Channel.{pointers_of}
 use Rattle.alloc.specs.Params.{curve_of, levels_of, begins_at, leaks_of, start_of}
 use Rattle.alloc.specs.Answers.{filled, channel_of, allocate_of}
 use Rattle.blocks.specs.declared.AllocState.{AllocState}
-use Rattle.blocks.specs.Block.{bai_fits, leak_fits, if_sent, sent_fit, others_fit, deltas_fit, codes_fit, no_delta, codes_at, leak_at, delta_at, uncovered, lacks_leak, state_of, slot_of}
+use Rattle.std.specs.Prelude.{Option, Some, None, is_some, unwrap_or}
+use Rattle.blocks.specs.declared.Bai.{Bai}
+use Rattle.blocks.specs.Block.{shared_of, bai_fits, leak_fits, if_sent, sent_fit, others_fit, deltas_fit, codes_fit, no_delta, codes_at, leak_at, delta_at, uncovered, lacks_leak, state_of, slot_of}
 use Rattle.blocks.specs.Order.{among, by_one_of, InOrder}
 
 -- the numbers of a slot
@@ -80,12 +81,12 @@ leaks_takes f s h k =
     (begins_at a.0 b.0, rw (a.1, b.1))
 
 -- coupling's leak was sent where it is used, so it was tested
-start_takes : (cpl sent : Bool) (f s : ℕ) → (cpl && not sent) ≡ false → (sent ≡ true → (f ≤ 7) × (s ≤ 7))
-    → Takes (start_of (cond cpl (leak.Codes f s) leak.None))
+start_takes : (cpl : Bool) (leak : Option Leak) → (cpl && not (is_some leak)) ≡ false → if_sent leak leak_fits ≡ true
+    → Takes (start_of (cond cpl leak None))
 unfolding start_of
-start_takes false sent f s e h = (begins_at (pos 0) (pos 0), refl)
-start_takes true true f s e h = leaks_takes f s (h refl).0 (h refl).1
-start_takes true false f s e h = absurd (subst (λ (x : Bool). T x) e tt)
+start_takes false leak e h = (begins_at (pos 0) (pos 0), refl)
+start_takes true (Some l) e h = leaks_takes l.cplfleak l.cplsleak (leb-true _ 7 (and_left _ _ h)) (leb-true _ 7 (and_right (leb l.cplfleak 7) _ h))
+start_takes true None e h = absurd (subst (λ (x : Bool). T x) e tt)
 
 -- the channel with its parameters decoded
 channel_by : (empty above outside : Bool) (bap : List ℕ)
@@ -102,7 +103,7 @@ filled_by (taken bap) h = refl
 filled_by (refused g) h = h
 
 -- the channel alone
-module _ (exp : List ℕ) (start end : ℕ) (k : Codes) (l : Leak) (d : Delta) (w : Pointers) (hearing log_add : List ℕ) where
+module _ (exp : List ℕ) (start end : ℕ) (k : Codes) (l : Option Leak) (d : Delta) (w : Pointers) (hearing log_add : List ℕ) where
   alone_by : tables_fit hearing log_add ≡ true → Takes (curve_of k) → Takes (levels_of k) → Takes (start_of l)
       → delta_fits d ≡ true → by_one_of slot_numbers (state_of (allocate_of exp start end k l d w hearing log_add)) ≡ true
   unfolding allocate_of channel_of
@@ -121,9 +122,10 @@ slot_by_lem true true l alone h = refl
 slot_by_lem true false true alone h = refl
 slot_by_lem true false false alone h = h refl
 
-sent_fits : (sent fits : Bool) → if_sent sent fits ≡ true → sent ≡ true → fits ≡ true
-sent_fits true fits e h = e
-sent_fits false fits e h = absurd (subst (λ (x : Bool). T (not x)) h tt)
+-- what was sent was tested
+sent_fits : {A : Type 0} (a : A) (o : Option A) (fits : A → Bool) → is_some o ≡ true → if_sent o fits ≡ true → fits (unwrap_or o a) ≡ true
+sent_fits a (Some x) fits h e = e
+sent_fits a None fits h e = absurd (subst (λ (x : Bool). T (not x)) h tt)
 
 delta_fits_at : (ds : List Delta) (i : ℕ) → i < length ds → deltas_fit ds ≡ true → delta_fits (get_or ds i no_delta) ≡ true
 unfolding deltas_fit
@@ -138,39 +140,38 @@ own_fits false d h = h
 
 -- what the block's tests say of the codes that a slot hands on
 module _ (st : AllocState) (fscod : ℕ) (i : ℕ) (h : i < 7) where
-  codes_curve : bai_fits st ≡ true → others_fit st fscod ≡ true → Takes (curve_of (codes_at st fscod i))
-  unfolding codes_at bai_fits others_fit
+  abbrev sent : Bai
+  sent = (shared_of st fscod).bai
+
+  codes_curve : bai_fits sent ≡ true → others_fit st fscod ≡ true → Takes (curve_of (codes_at st fscod i))
+  unfolding codes_at others_fit
   codes_curve b o =
-      let b1 = and_right (leb st.sdcycod 3) _ b in
-      let b2 = and_right (leb st.fdcycod 3) _ b1 in
+      let b1 = and_right (leb sent.sdcycod 3) _ b in
+      let b2 = and_right (leb sent.fdcycod 3) _ b1 in
       curve_takes (codes_at st fscod i) (leb-true _ 3 (and_left _ _ b)) (leb-true _ 3 (and_left _ _ b1)) (leb-true _ 3 (and_left _ _ b2))
       (upto_at 7 st.fgaincod 0 7 (and_left _ _ o) i zero-le h)
 
-  codes_levels : bai_fits st ≡ true → leb st.csnroffst 63 ≡ true → others_fit st fscod ≡ true → Takes (levels_of (codes_at st fscod i))
-  unfolding codes_at bai_fits others_fit
+  codes_levels : bai_fits sent ≡ true → leb (unwrap_or st.csnroffst 0) 63 ≡ true → others_fit st fscod ≡ true → Takes (levels_of (codes_at st fscod i))
+  unfolding codes_at others_fit
   codes_levels b c o =
-      let b1 = and_right (leb st.sdcycod 3) _ b in
-      let b2 = and_right (leb st.fdcycod 3) _ b1 in
-      let b3 = and_right (leb st.sgaincod 3) _ b2 in
+      let b1 = and_right (leb sent.sdcycod 3) _ b in
+      let b2 = and_right (leb sent.fdcycod 3) _ b1 in
+      let b3 = and_right (leb sent.sgaincod 3) _ b2 in
       let o1 = and_right (upto 7 st.fgaincod 0 7) _ o in
-      levels_takes (codes_at st fscod i) (leb-true _ 3 (and_left _ _ b3)) (leb-true _ 7 (and_right (leb st.dbpbcod 3) _ b3)) (leb-true _ 63 c)
+      levels_takes (codes_at st fscod i) (leb-true _ 3 (and_left _ _ b3)) (leb-true _ 7 (and_right (leb sent.dbpbcod 3) _ b3)) (leb-true _ 63 c)
       (upto_at 15 st.fsnroffst 0 7 (and_left _ _ o1) i zero-le h) (leb-true _ 2 (and_right (upto 15 st.fsnroffst 0 7) _ o1))
-
-leaks_low : (st : AllocState) → leak_fits st ≡ true → (st.cplfleak ≤ 7) × (st.cplsleak ≤ 7)
-unfolding leak_fits
-leaks_low st e = (leb-true _ 7 (and_left _ _ e), leb-true _ 7 (and_right (leb st.cplfleak 7) _ e))
 
 -- the three that may be unsent
 record SentFit (st : AllocState) : Type 0 where
-  parameters : if_sent st.bai_sent (bai_fits st) ≡ true
-  offset : if_sent st.csnroffst_sent (leb st.csnroffst 63) ≡ true
-  leaks : if_sent st.cplleak_sent (leak_fits st) ≡ true
+  parameters : if_sent st.bai bai_fits ≡ true
+  offset : if_sent st.csnroffst (λ k. leb k 63) ≡ true
+  leaks : if_sent st.cplleak leak_fits ≡ true
 
 sent_parts : (st : AllocState) → sent_fit st ≡ true → SentFit st
 unfolding sent_fit
 sent_parts st e =
-    let f = and_right (if_sent st.bai_sent (bai_fits st)) _ e in
-    record { parameters = and_left _ _ e; offset = and_left _ _ f; leaks = and_right (if_sent st.csnroffst_sent (leb st.csnroffst 63)) _ f }
+    let f = and_right (if_sent st.bai bai_fits) _ e in
+    record { parameters = and_left _ _ e; offset = and_left _ _ f; leaks = and_right (if_sent st.csnroffst (λ k. leb k 63)) _ f }
 
 pub in_order : InOrder
 unfolding slot_of lacks_leak codes_fit leak_at delta_at
@@ -178,11 +179,11 @@ in_order st fscod hearing log_add t i h s =
     let sent = sent_parts st (and_left (sent_fit st) _ t.codes) in
     let rest = and_right (sent_fit st) _ t.codes in
     let others = and_left (others_fit st fscod) _ rest in
-    let bai = sent_fits _ _ sent.parameters t.parameters in
+    let bai : bai_fits (shared_of st fscod).bai ≡ true = sent_fits _ st.bai bai_fits t.parameters sent.parameters in
     let below : i < length st.delta = omega (arith, t.slots) in
     slot_by_lem s.present (uncovered s) (lacks_leak st i) _ (λ e.
     alone_by s.exp s.start s.end (codes_at st fscod i) _ _ (pointers_by s.high) hearing log_add t.tables
     (codes_curve st fscod i h bai others)
-    (codes_levels st fscod i h bai (sent_fits _ _ sent.offset t.csnroffst) others)
-    (start_takes (eqb i 5) st.cplleak_sent st.cplfleak st.cplsleak e (λ y. leaks_low st (sent_fits _ _ sent.leaks y)))
+    (codes_levels st fscod i h bai (sent_fits _ _ _ t.csnroffst sent.offset) others)
+    (start_takes (eqb i 5) st.cplleak e sent.leaks)
     (own_fits (eqb i 6) (get_or st.delta i no_delta) (delta_fits_at st.delta i below (and_right (others_fit st fscod) _ rest))))

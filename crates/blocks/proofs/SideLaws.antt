@@ -1,171 +1,142 @@
--- Laws of side information: the cases of a delta code, what the sticky reader makes of a slot's segments, and what a call over them comes to in
+-- Laws of side information: the cases of a delta code, what reading a slot's segments at a cursor comes to, and what a call over them comes to in
 -- the state that holds them.
 -- Assumes nothing.
-use Prim.Native.Nat.{ℕ, zero, suc, ◌+◌, ◌^◌, ◌<◌, ◌≤◌}
-use mathlib.Core.Path.{◌≡◌, refl, sym, ap, subst, ◌∙◌}
+use Prim.Native.Nat.{ℕ, zero, suc, ◌+◌, ◌-◌, ◌^◌, ◌<◌, ◌≤◌}
+use mathlib.Core.Path.{◌≡◌, refl, sym, ap, ◌∙◌}
 use mathlib.Core.List.{List}
-use mathlib.Core.Bool.{Bool, true, false}
+use mathlib.Core.Bool.{Bool}
 use native.Mathlib.Omega.{arith}
 use native.Mathlib.Numerals.{add-one}
 use lib.Seq.{set-get_or}
-use borrow.Author.Tests.{lt-ltb, le-ltb, eq-eqb, ne_eqb}
-use Rattle.refusal.specs.declared.Refusal.{Refusal}
-use Rattle.refusal.specs.Refusals.{Grounds, Outcome, taken, refused, grounds, told, and_then, Ran, leaves, follow, then_run}
+use borrow.Author.Tests.{lt-ltb, le-ltb}
+use Rattle.refusal.specs.Refusals.{Grounds, Outcome, taken, refused, grounds, and_then, Ran, leaves, follow, then_run}
 use Rattle.refusal.proofs.Laws.{run_stays}
-use Rattle.bits.specs.declared.Put.{Put}
-use Rattle.bits.specs.declared.Put.TheVariants as put
-use Rattle.bits.specs.Answers.{done_of}
 use Rattle.tables.specs.declared.Delta.{Delta}
 use Rattle.syntax.specs.declared.Ask.{Ask}
-use Rattle.syntax.specs.declared.Reader.{Reader}
-use Rattle.syntax.specs.Reads.{Standing, seen_of, reader_of, shown, read_of, next_of}
-use Rattle.syntax.proofs.Ends.{next_is, next_on}
-use Rattle.syntax.proofs.ReadLaws.{next_taken}
+use Rattle.syntax.specs.declared.cursor.Cursor.{Cursor}
+use Rattle.syntax.specs.Reads.{Standing, standing, read_of}
+use Rattle.syntax.specs.Cursors.{Held, held_of, over, read_at}
+use Rattle.syntax.proofs.ReadLaws.{read_taken}
 use Rattle.blocks.specs.declared.AllocState.{AllocState}
-use Rattle.blocks.specs.declared.DeltaTold.{DeltaTold}
 use Rattle.blocks.specs.Block.{no_delta, segments_at}
-use Rattle.blocks.specs.Side.{with_deltas, with_delta, bad_code, deltbae_of, delta_code_of, nseg_ask, offst_ask, len_ask, ba_ask, with_segment, reached, segment_of, segments_of, delta_of, slot_delta_of, read_delta_of, beside, delta_told_of, Settled, settled, settled_of}
+use Rattle.blocks.specs.Side.{with_deltas, with_delta, deltbae_of, delta_code_of, nseg_ask, offst_ask, len_ask, ba_ask, with_segment, reached, segment_of, segments_of, delta_of, slot_delta_of, read_delta_of, Settled, settled, settled_of}
+use Rattle.blocks.proofs.Held.{held_stops, held_on}
 
--- the cases of a delta code
-module _ (d : Delta) (slot code : ℕ) (block0 : Bool) where
-  pub code-6 : 6 < slot → ◌≡◌ {A = Ran Delta Unit} (record { outcome = refused (grounds 6 0); state = d }) (leaves d (deltbae_of d slot code block0))
-  unfolding deltbae_of
-  code-6 h = rw (lt-ltb 6 slot h)
+module _ (frame : List ℕ) (slot : ℕ) where
+  -- a segment's last element, with what was read before it, and its last two
+  abbrev pub third : Delta → ℕ → ℕ → Standing → Ran Standing Delta
+  third d o l st = then_run (read_of frame st (ba_ask slot)) (λ b st₁. reached (with_segment d o l b) st₁)
 
-  module _ (h : slot ≤ 6) where
-    pub code-15 : bad_code code block0 ≡ true → ◌≡◌ {A = Ran Delta Unit} (record { outcome = refused (grounds 15 0); state = d }) (leaves d (deltbae_of d slot code block0))
-    unfolding deltbae_of
-    code-15 b = rw (le-ltb 6 slot h, b)
+  abbrev pub second : Delta → ℕ → Standing → Ran Standing Delta
+  second d o st = then_run (read_of frame st (len_ask slot)) (third d o)
 
-    module _ (b : bad_code code block0 ≡ false) where
-      pub code-2 : code ≡ 2 → (e : Delta) → e ≡ no_delta → ◌≡◌ {A = Ran Delta Unit} (record { outcome = taken tt; state = e }) (leaves d (deltbae_of d slot code block0))
-      unfolding deltbae_of
-      code-2 k e n = rw (le-ltb 6 slot h, b, eq-eqb code 2 k) (λ i. record { outcome = taken tt; state = n i })
+  -- one turn: one segment more
+  pub segments_again : (k : ℕ) (r : Ran Standing Delta) → then_run (segments_of frame slot k r) (λ d st. segment_of frame slot d st) ≡ segments_of frame slot (k + 1) r
+  unfolding segments_of
+  segments_again k r = rw add-one refl
 
-      pub code_kept : (code ≡ 2 → ⊥) → ◌≡◌ {A = Ran Delta Unit} (record { outcome = taken tt; state = d }) (leaves d (deltbae_of d slot code block0))
-      unfolding deltbae_of
-      code_kept k = rw (le-ltb 6 slot h, b, ne_eqb code 2 k)
+  -- after a refusal nothing more is read
+  pub segments_stop : (k m : ℕ) (r : Ran Standing Delta) {g : Grounds} → (segments_of frame slot k r).outcome ≡ refused g
+      → segments_of frame slot k r ≡ segments_of frame slot (k + m) r
+  segments_stop k zero r e = ap (λ (n : ℕ). segments_of frame slot n r) (let p : k ≡ k + 0 = omega arith in p)
+  segments_stop k (suc m) r e =
+      let s = segments_stop k m r e in
+      s
+      ∙ run_stays (λ d st. segment_of frame slot d st) refl (ap (λ (x : Ran Standing Delta). x.outcome) (sym s) ∙ e)
+      ∙ segments_again (k + m) r
+      ∙ ap (λ (n : ℕ). segments_of frame slot n r) (let p : k + m + 1 ≡ k + suc m = omega arith in p)
 
--- what follows a reader with something beside it
-beside_then : {A B C : Type 0} (r : Ran Standing A) (b : B) (next : B → Standing → Ran Standing C) → then_run (beside r b) next ≡ then_run r (λ _ st. next b st)
-beside_then {A} {B} {C} r b next = go r.outcome
-  where
-    go : (o : Outcome A) → follow (and_then o (λ _. taken b)) r.state next ≡ follow o r.state (λ _ st. next b st)
-    go (taken a) = refl
-    go (refused g) = refl
+-- what a cursor reads has its bits
+pub read_below : (c₀ : Cursor) (log₀ : List ℕ) (a : Ask) {v : ℕ} {c : Cursor} {log : List ℕ} → held_of (taken v) c log ≡ read_at c₀ log₀ a → v < 2 ^ a.width
+read_below c₀ log₀ a {v} e =
+    (read_taken c₀.bytes.now (standing c₀.place log₀) a v (sym (ap (λ (h : Ran Held ℕ). h.outcome) e))).below
 
--- a reader's value, put beside it
-beside_is : {B : Type 0} (r : Ran Standing ℕ) (f : ℕ → B) → beside r (f (shown r.outcome)) ≡ then_run r (λ v st. reached (f v) st)
-beside_is {B} r f = go r.outcome
-  where
-    go : (o : Outcome ℕ) → ◌≡◌ {A = Ran Standing B} (record { outcome = and_then o (λ _. taken (f (shown o))); state = r.state })
-        (follow o r.state (λ v st. reached (f v) st))
-    go (taken v) = refl
-    go (refused g) = refl
+-- reading a segment at a cursor: its offset, its length, its value
+module _ (slot : ℕ) (d : Delta) (c₀ : Cursor) (log₀ : List ℕ) where
+  abbrev all : Ran Held Delta
+  all = over c₀ (segment_of c₀.bytes.now slot d (standing c₀.place log₀))
 
-module _ (frame : List ℕ) where
-  -- what follows a reader's value and the next one's
-  then_next : {B : Type 0} (a : Ask) (r : Ran Standing ℕ) (f : ℕ → ℕ → Standing → Ran Standing B)
-      → then_run (next_of frame a r) (f (shown r.outcome)) ≡ then_run r (λ v st. then_run (read_of frame st a) (f v))
-  then_next {B} a r f = ap (λ (x : Ran Standing ℕ). then_run x (f (shown r.outcome))) (next_is frame a r) ∙ go r.outcome
-    where
-      go : (o : Outcome ℕ) → then_run (follow o r.state (λ _ st. read_of frame st a)) (f (shown o))
-          ≡ follow o r.state (λ v st. then_run (read_of frame st a) (f v))
-      go (taken v) = refl
-      go (refused g) = refl
+  abbrev first : Ran Standing ℕ
+  first = read_of c₀.bytes.now (standing c₀.place log₀) (offst_ask slot)
 
-  module _ (slot : ℕ) where
-    -- a segment's last element, with what was read before it, and its last two
-    abbrev pub third : Delta → ℕ → ℕ → Standing → Ran Standing Delta
-    third d o l st = then_run (read_of frame st (ba_ask slot)) (λ b st₁. reached (with_segment d o l b) st₁)
-
-    abbrev pub second : Delta → ℕ → Standing → Ran Standing Delta
-    second d o st = then_run (read_of frame st (len_ask slot)) (third d o)
-
-    -- three elements of the sticky reader are a segment
-    pub segment_is : (d e : Delta) (r a b c : Ran Standing ℕ) → a ≡ next_of frame (offst_ask slot) r → b ≡ next_of frame (len_ask slot) a
-        → c ≡ next_of frame (ba_ask slot) b → e ≡ with_segment d (shown a.outcome) (shown b.outcome) (shown c.outcome)
-        → beside c e ≡ then_run (beside r d) (λ x st. segment_of frame slot x st)
+  module _ {c : Cursor} {log : List ℕ} where
+    pub offset_stops : {x : Grounds} → held_of {A = ℕ} (refused x) c log ≡ over c₀ first → held_of {A = Delta} (refused x) c log ≡ all
     unfolding segment_of
-    segment_is d e r a b c p q s t =
-        let o = shown a.outcome in
-        let l = shown b.outcome in
-        ap (λ (x : Delta). beside c x) t
-        ∙ beside_is c (with_segment d o l)
-        ∙ ap (λ (x : Ran Standing ℕ). then_run x (λ v st. reached (with_segment d o l v) st)) s
-        ∙ then_next (ba_ask slot) b (λ m v st. reached (with_segment d o m v) st)
-        ∙ ap (λ (x : Ran Standing ℕ). then_run x (third d o)) q
-        ∙ then_next (len_ask slot) a (third d)
-        ∙ ap (λ (x : Ran Standing ℕ). then_run x (second d)) p
-        ∙ then_next (offst_ask slot) r (λ _. second d)
-        ∙ sym (beside_then r d (λ x st. then_run (read_of frame st (offst_ask slot)) (second x)))
+    offset_stops e = held_stops c₀ first (λ frame. second frame slot d) e
 
-    -- one turn: one segment more
-    pub segments_again : (k : ℕ) (r t : Ran Standing Delta) → t ≡ segments_of frame slot k r
-        → then_run t (λ d st. segment_of frame slot d st) ≡ segments_of frame slot (k + 1) r
-    unfolding segments_of
-    segments_again k r t e = rw add-one (ap (λ (x : Ran Standing Delta). then_run x (λ d st. segment_of frame slot d st)) e)
+    module _ {o : ℕ} (e : held_of (taken o) c log ≡ over c₀ first) where
+      abbrev middle : Ran Standing ℕ
+      middle = read_of c.bytes.now (standing c.place log) (len_ask slot)
 
-    -- a refused reading stays as it is
-    segments_stay : (n : ℕ) (r : Ran Standing Delta) {g : Grounds} → r.outcome ≡ refused g → segments_of frame slot n r ≡ r
-    unfolding segments_of
-    segments_stay zero r e = refl
-    segments_stay (suc n) r e =
-        ap (λ (x : Ran Standing Delta). then_run x (λ d st. segment_of frame slot d st)) (segments_stay n r e)
-        ∙ sym (run_stays (λ d st. segment_of frame slot d st) refl e)
+      to_second : over c (then_run middle (third c.bytes.now slot d o)) ≡ all
+      unfolding segment_of
+      to_second = held_on c₀ first (λ frame. second frame slot d) e
 
-    -- the segments that deltnseg announces
-    pub delta_is : (r : Ran Standing ℕ) (st : Standing) → r ≡ read_of frame st (nseg_ask slot)
-        → segments_of frame slot (shown r.outcome + 1) (beside r no_delta) ≡ delta_of frame slot st
-    unfolding delta_of
-    delta_is r st e = counted r.outcome ∙ ap (λ (x : Ran Standing ℕ). then_run x (λ n st₁. segments_of frame slot (n + 1) (reached no_delta st₁))) e
-      where
-        counted : (o : Outcome ℕ)
-            → segments_of frame slot (shown o + 1) (record { outcome = and_then o (λ _. taken no_delta); state = r.state })
-            ≡ follow o r.state (λ n st₁. segments_of frame slot (n + 1) (reached no_delta st₁))
-        counted (taken n) = refl
-        counted (refused g) = segments_stay 1 (record { outcome = refused g; state = r.state }) refl
+      module _ {c₁ : Cursor} {log₁ : List ℕ} where
+        pub len_stops : {x : Grounds} → held_of {A = ℕ} (refused x) c₁ log₁ ≡ over c middle → held_of {A = Delta} (refused x) c₁ log₁ ≡ all
+        len_stops f = held_stops c middle (λ frame. third frame slot d o) f ∙ to_second
 
-  -- the first element that a reader reads
-  pub first_is : (a : Ask) (st : Standing) (r : Ran Standing ℕ) → r ≡ record { outcome = taken 0; state = st } → next_of frame a r ≡ read_of frame st a
-  first_is a st r e = ap (λ (x : Ran Standing ℕ). next_of frame a x) e ∙ next_on frame a (record { outcome = taken 0; state = st }) refl
+        module _ {l : ℕ} (f : held_of (taken l) c₁ log₁ ≡ over c middle) where
+          abbrev last : Ran Standing ℕ
+          last = read_of c₁.bytes.now (standing c₁.place log₁) (ba_ask slot)
 
-  -- what the reader shows has the element's bits
-  pub value_below : (a : Ask) (q : Ran Standing ℕ) (r : Reader) (log : List ℕ) (m : ℕ) → reader_of r log ≡ next_of frame a q
-      → r.value ≡ shown (seen_of r.answer r.value) → 2 ^ a.width ≤ m → 0 < m → r.value < m
-  value_below a q r log m e v h z =
-      subst (λ (x : ℕ). x < m) (sym (v ∙ ap (λ (w : Ran Standing ℕ). shown w.outcome) e)) (go (next_of frame a q).outcome refl)
-    where
-      go : (o : Outcome ℕ) → (next_of frame a q).outcome ≡ o → shown (next_of frame a q).outcome < m
-      go (taken u) f =
-          let t = (next_taken frame a q u f).3.below in
-          subst (λ (x : Outcome ℕ). shown x < m) (sym f) (omega arith)
-      go (refused g) f = subst (λ (x : Outcome ℕ). shown x < m) (sym f) z
+          abbrev put : ℕ → Standing → Ran Standing Delta
+          put b st = reached (with_segment d o l b) st
 
--- the segments after a reader, by its answer
-module _ (before d : Delta) (a : Put) (v : ℕ) where
-  pub kept_stays : {r : Refusal} → a ≡ put.Refused r
-      → ◌≡◌ {A = Ran Delta Unit} (record { outcome = told r; state = before }) (leaves before (and_then (seen_of a v) (λ _. taken d)))
-  kept_stays e = ap (λ (x : Put). leaves before (and_then (seen_of x v) (λ _. taken d))) (sym e)
+          to_third : over c₁ (then_run last put) ≡ all
+          to_third = held_on c middle (λ frame. third frame slot d o) f ∙ to_second
 
-  pub kept_on : a ≡ put.Done → ◌≡◌ {A = Ran Delta Unit} (record { outcome = taken tt; state = d }) (leaves before (and_then (seen_of a v) (λ _. taken d)))
-  kept_on e = ap (λ (x : Put). leaves before (and_then (seen_of x v) (λ _. taken d))) (sym e)
+          module _ {c₂ : Cursor} {log₂ : List ℕ} where
+            pub ba_stops : {x : Grounds} → held_of {A = ℕ} (refused x) c₂ log₂ ≡ over c₁ last → held_of {A = Delta} (refused x) c₂ log₂ ≡ all
+            ba_stops h = held_stops c₁ last (λ _. put) h ∙ to_third
 
--- the two ways of a reading
-module _ (frame : List ℕ) (st : Standing) (before : Delta) (slot : ℕ) where
-  pub delta-6 : 6 < slot
-      → ◌≡◌ {A = Ran (Settled Delta) Unit} (record { outcome = refused (grounds 6 st.place.pos); state = settled st before })
-      (settled_of before (slot_delta_of frame st slot))
+            pub segment_read : {b : ℕ} → held_of (taken b) c₂ log₂ ≡ over c₁ last → {e : Delta} → e ≡ with_segment d o l b → held_of (taken e) c₂ log₂ ≡ all
+            segment_read h p = ap (λ (x : Delta). held_of (taken x) c₂ log₂) p ∙ held_on c₁ last (λ _. put) h ∙ to_third
+
+-- a turn of the loop over the segments, taken or refused
+module _ (slot i : ℕ) (c₀ : Cursor) (r : Ran Standing Delta) {d : Delta} {c c' : Cursor} {log log' : List ℕ}
+    (so_far : held_of (taken d) c log ≡ over c₀ (segments_of c₀.bytes.now slot i r)) where
+  pub segments_turn : {o : Outcome Delta} → held_of o c' log' ≡ over c (segment_of c.bytes.now slot d (standing c.place log))
+      → held_of o c' log' ≡ over c₀ (segments_of c₀.bytes.now slot (i + 1) r)
+  segments_turn e =
+      e
+      ∙ held_on c₀ (segments_of c₀.bytes.now slot i r) (λ frame x. segment_of frame slot x) so_far
+      ∙ ap (over c₀) (segments_again c₀.bytes.now slot i r)
+
+  pub segments_halt : {x : Grounds} → held_of (refused x) c' log' ≡ over c (segment_of c.bytes.now slot d (standing c.place log))
+      → {n : ℕ} → i + 1 ≤ n → held_of (refused x) c' log' ≡ over c₀ (segments_of c₀.bytes.now slot n r)
+  segments_halt {x} e {n} k =
+      let t = segments_turn e in
+      let s : (segments_of c₀.bytes.now slot (i + 1) r).outcome ≡ refused x = sym (ap (λ (q : Ran Held Delta). q.outcome) t) in
+      let p : i + 1 + (n - (i + 1)) ≡ n = omega (arith, k) in
+      t ∙ ap (over c₀) (segments_stop c₀.bytes.now slot (i + 1) (n - (i + 1)) r s)
+      ∙ ap (λ (m : ℕ). over c₀ (segments_of c₀.bytes.now slot m r)) p
+
+-- reading a slot's segments at a cursor: 6, or deltnseg and the segments that it announces
+module _ (slot : ℕ) (c₀ : Cursor) (log₀ : List ℕ) where
+  abbrev whole : Ran Held Delta
+  whole = over c₀ (slot_delta_of c₀.bytes.now (standing c₀.place log₀) slot)
+
+  abbrev announced : Ran Standing ℕ
+  announced = read_of c₀.bytes.now (standing c₀.place log₀) (nseg_ask slot)
+
+  abbrev announces : List ℕ → ℕ → Standing → Ran Standing Delta
+  announces frame n st = segments_of frame slot (n + 1) (reached no_delta st)
+
+  pub delta_6 : 6 < slot → held_of {A = Delta} (refused (grounds 6 c₀.place.pos)) c₀ log₀ ≡ whole
   unfolding slot_delta_of
-  delta-6 h = rw (lt-ltb 6 slot h)
+  delta_6 h = rw (lt-ltb 6 slot h)
 
-  pub delta_done : slot ≤ 6 → (r : Ran Standing Delta) → r ≡ delta_of frame slot st → (t : DeltaTold) → delta_told_of t ≡ leaves before r.outcome
-      → ◌≡◌ {A = Ran (Settled Delta) Unit} (record { outcome = done_of t.answer; state = settled r.state t.delta })
-      (settled_of before (slot_delta_of frame st slot))
-  unfolding slot_delta_of
-  delta_done h r e t k =
-      rw (le-ltb 6 slot h)
-      ((λ i. record { outcome = (k i).outcome; state = settled r.state (k i).state }) ∙ ap (λ x. settled_of before x) e)
+  to_delta : slot ≤ 6 → over c₀ (then_run announced (announces c₀.bytes.now)) ≡ whole
+  unfolding slot_delta_of delta_of
+  to_delta h = rw (le-ltb 6 slot h)
+
+  module _ (h : slot ≤ 6) {c : Cursor} {log : List ℕ} where
+    pub nseg_stops : {x : Grounds} → held_of {A = ℕ} (refused x) c log ≡ over c₀ announced → held_of {A = Delta} (refused x) c log ≡ whole
+    nseg_stops e = held_stops c₀ announced announces e ∙ to_delta h
+
+    pub nseg_on : {n : ℕ} → held_of (taken n) c log ≡ over c₀ announced → over c (announces c.bytes.now n (standing c.place log)) ≡ whole
+    nseg_on e = held_on c₀ announced announces e ∙ to_delta h
 
 -- a call over a slot's segments, in the state that holds them: the slot has what the call leaves, and a refused call leaves all as it was
 module _ (st : AllocState) (slot : ℕ) where

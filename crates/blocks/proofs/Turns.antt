@@ -7,32 +7,15 @@ use mathlib.Core.Bool.{Bool, true, false, not, ◌&&◌, ◌||◌}
 use native.Mathlib.Numerals.{add-one}
 use native.Mathlib.Omega.{arith}
 use lib.Dec.{eqb}
+use borrow.Author.Tests.{ne_eqb}
 use lib.ListN.{length, get_or, set, take, drop, drop_of_length-le, get_or-replicate}
 use lib.Seq.{drop-cons, take-suc-set, append_snoc, take_all, get_or-set_other}
 use Rattle.refusal.specs.Refusals.{Grounds, Outcome, taken, refused, and_then}
-use Rattle.tables.specs.declared.Delta.{Delta}
 use Rattle.tables.specs.Bands.{zeros}
-use Rattle.tables.specs.Fits.{delta_fits}
 use Rattle.alloc.specs.Table.{table}
 use Rattle.alloc.proofs.TableLaws.{length_table, get_d_table}
 use Rattle.blocks.specs.declared.AllocState.{AllocState}
-use Rattle.blocks.specs.Block.{Slot, slot_at, asked, deltas_fit, quiet_from, slot_of, slots_from, silence}
-
--- whether the segments are fit
-module _ (ds : List Delta) (i : ℕ) (d : Delta) (h : i < length ds) where
-  deltas_one : deltas_fit (drop i ds) ≡ (delta_fits (get_or ds i d) && deltas_fit (drop (i + 1) ds))
-  unfolding deltas_fit
-  deltas_one = rw (add-one, drop-cons ds i d h)
-
-  pub deltas_unfit : delta_fits (get_or ds i d) ≡ false → false ≡ deltas_fit (drop i ds)
-  deltas_unfit e = sym (deltas_one ∙ ap (λ (b : Bool). b && deltas_fit (drop (i + 1) ds)) e)
-
-  pub deltas_on : delta_fits (get_or ds i d) ≡ true → deltas_fit (drop (i + 1) ds) ≡ deltas_fit (drop i ds)
-  deltas_on e = sym (deltas_one ∙ ap (λ (b : Bool). b && deltas_fit (drop (i + 1) ds)) e)
-
-pub deltas_end : (ds : List Delta) (i : ℕ) → length ds ≤ i → true ≡ deltas_fit (drop i ds)
-unfolding deltas_fit
-deltas_end ds i h = rw (drop_of_length-le ds h)
+use Rattle.blocks.specs.Block.{Slot, slot_at, asked, quiet_from, slot_of, slots_from, silence}
 
 -- the slots that are asked for
 module _ (present high : List Bool) (exponents ranges : List (List ℕ)) where
@@ -60,11 +43,14 @@ module _ (fs : List ℕ) (present high : List Bool) (exponents ranges : List (Li
     unfolding quiet_from slot_at
     quiet_one = ap (quiet_from fs i) (asked_on present high exponents ranges i h) ∙ rw add-one
 
-    pub quiet_not : (not (get_or present i false) || eqb (get_or fs i 0) 0) ≡ false → false ≡ quiet_on i
-    quiet_not e = sym (quiet_one ∙ ap (λ (b : Bool). b && quiet_on (i + 1)) e)
+    pub quiet_not : get_or present i false ≡ true → (get_or fs i 0 ≡ 0 → ⊥) → false ≡ quiet_on i
+    quiet_not p f = sym (quiet_one ∙ rw (p, ne_eqb _ 0 f))
 
-    pub quiet_on_lem : (not (get_or present i false) || eqb (get_or fs i 0) 0) ≡ true → quiet_on (i + 1) ≡ quiet_on i
-    quiet_on_lem e = sym (quiet_one ∙ ap (λ (b : Bool). b && quiet_on (i + 1)) e)
+    pub quiet_fine : get_or present i false ≡ true → get_or fs i 0 ≡ 0 → quiet_on (i + 1) ≡ quiet_on i
+    quiet_fine p f = sym (quiet_one ∙ rw (p, f))
+
+    pub quiet_absent : get_or present i false ≡ false → quiet_on (i + 1) ≡ quiet_on i
+    quiet_absent p = sym (quiet_one ∙ rw p)
 
   pub quiet_end : 7 ≤ i → true ≡ quiet_on i
   unfolding quiet_from

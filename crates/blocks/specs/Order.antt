@@ -1,7 +1,7 @@
 -- Document 01, "Order over a block": past the block's own tests, 21, 11, 10 and 10, "slots 0 to 6, each: 12; 10 for leak; an empty range gives
 -- zeros; 6 if end > 253; 8". The channel alone tests 21 and 11 again, and this says that there they never come.
 -- Assumes nothing.
-use Rattle.std.specs.Prelude.{ℕ, ◌<◌, ◌≡◌, List, [], ◌∷◌, Bool, true, false, ◌||◌, eqb, length}
+use Rattle.std.specs.Prelude.{ℕ, ◌<◌, ◌≡◌, List, [], ◌∷◌, Bool, true, false, ◌||◌, eqb, length, is_some}
 use Rattle.refusal.specs.Refusals.{Outcome, taken, refused}
 use Rattle.tables.specs.Fits.{tables_fit}
 use Rattle.tables.specs.Slots.{slot_count}
@@ -22,8 +22,8 @@ by_one_of ks (refused g) = among g.number ks
 pub record Tested (st : AllocState) (fscod : ℕ) (hearing log_add : List ℕ) : Type 0 where
   pub tables : tables_fit hearing log_add ≡ true
   pub codes : codes_fit st fscod ≡ true
-  pub csnroffst : st.csnroffst_sent ≡ true
-  pub parameters : st.bai_sent ≡ true
+  pub csnroffst : is_some st.csnroffst ≡ true
+  pub parameters : is_some st.bai ≡ true
   pub slots : length st.delta ≡ slot_count
 
 -- then a slot is refused by 12, 10, 6 or 8 alone

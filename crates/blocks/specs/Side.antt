@@ -4,36 +4,24 @@
 -- Assumes nothing.
 use Rattle.std.specs.Prelude.{ℕ, zero, suc, ◌+◌, List, Bool, cond, ◌&&◌, ◌||◌, ltb, eqb, pos, set}
 use Rattle.refusal.specs.Refusals.{Outcome, taken, refuse_if, and_then, Ran, settle, leaves, then_run}
-use Rattle.bits.specs.Answers.{done_of}
 use Rattle.syntax.specs.declared.Ask.{Ask}
 use Rattle.syntax.specs.declared.Role.TheVariants as role
 use Rattle.syntax.specs.Names as names
-use Rattle.syntax.specs.Reads.{Standing, standing, reader_of, read_of}
+use Rattle.syntax.specs.Reads.{Standing, read_of}
 use Rattle.tables.specs.declared.Delta.{Delta}
 use Rattle.tables.specs.Slots.{no_slot, is_coupling}
 use Rattle.blocks.specs.declared.AllocState.{AllocState}
-use Rattle.blocks.specs.declared.DeltaTold.{DeltaTold}
-use Rattle.blocks.specs.declared.SoFar.{SoFar}
-use Rattle.blocks.specs.declared.DeltaRead.{DeltaRead}
 use Rattle.blocks.specs.Block.{no_delta, segments_at}
 
 -- the state with other segments
 abbrev pub with_deltas : AllocState → List Delta → AllocState
 with_deltas st ds =
     record {
-      bai_sent = st.bai_sent;
-      sdcycod = st.sdcycod;
-      fdcycod = st.fdcycod;
-      sgaincod = st.sgaincod;
-      dbpbcod = st.dbpbcod;
-      floorcod = st.floorcod;
-      csnroffst_sent = st.csnroffst_sent;
+      bai = st.bai;
       csnroffst = st.csnroffst;
       fsnroffst = st.fsnroffst;
       fgaincod = st.fgaincod;
-      cplleak_sent = st.cplleak_sent;
-      cplfleak = st.cplfleak;
-      cplsleak = st.cplsleak;
+      cplleak = st.cplleak;
       delta = ds;
     }
 
@@ -120,16 +108,6 @@ settled_of s r = record { outcome = (leaves s r.outcome).outcome; state = settle
 unfoldable pub read_delta_of : List ℕ → Standing → AllocState → ℕ → Ran (Settled AllocState) Unit
 read_delta_of frame st state slot = settled_of state (then_run (slot_delta_of frame st slot) (λ d st₁. reached (with_delta state slot d) st₁))
 
--- what a reader means that gathers segments
-abbrev pub beside : {A B : Type 0} → Ran Standing A → B → Ran Standing B
+-- what is kept beside an answer, where it is taken
+abbrev pub beside : {S A B : Type 0} → Ran S A → B → Ran S B
 beside r b = record { outcome = and_then r.outcome (λ _. taken b); state = r.state }
-
-abbrev pub so_far_of : SoFar → List ℕ → Ran Standing Delta
-so_far_of w log = beside (reader_of w.reader log) w.delta
-
--- what an answer means, with the segments and all that stands after it
-abbrev pub delta_told_of : DeltaTold → Ran Delta Unit
-delta_told_of r = record { outcome = done_of r.answer; state = r.delta }
-
-abbrev pub delta_read_of : DeltaRead → List ℕ → Ran (Settled Delta) Unit
-delta_read_of r log = record { outcome = done_of r.answer; state = settled (standing r.place log) r.delta }

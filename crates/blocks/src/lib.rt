@@ -2,386 +2,332 @@
 // slots of a block.
 #![tactic(auto)]
 
-ghost use Rattle.std.specs.Prelude.{◌≡◌, List, [], ℕ, ◌<◌, ◌≤◌, ◌+◌, Bool, not, ◌||◌, eqb};
-ghost use Rattle.bits.specs.Answers.{done_of};
-ghost use Rattle.refusal.specs.Refusals.{number_of, grounds, taken, refused as refused_of, and_then, leaves, then_run};
-ghost use Rattle.syntax.specs.Reads.{standing, seen_of, reader_of};
+ghost use Rattle.std.specs.Prelude.{◌≡◌, ◌&&◌, eqb, slice_index, List, [], ℕ, ◌<◌, ◌≤◌, ◌+◌, Bool};
+ghost use Rattle.refusal.specs.Refusals.{taken, outcome_of, ran_of, and_then};
+ghost use Rattle.syntax.specs.Reads.{standing, moved_of};
+ghost use Rattle.syntax.specs.Cursors.{held_of, over};
 ghost use Rattle.tables.specs.Bands.{zeros};
 ghost use Rattle.tables.specs.Pointers.{pointers_by};
 ghost use Rattle.tables.specs.Slots.{slot_count};
-ghost use Rattle.alloc.specs.Answers.{ended_of, allocated_of, filled, allocate_of};
-ghost use Rattle.blocks.specs.Block.{bai_fits, leak_fits, if_sent, sent_fit, others_fit, deltas_fit, codes_fit, quiet_from, quiet, no_delta, codes_at, leak_at, delta_at, slot_by, asked, uncovered, lacks_leak, slot_of, block_of, filled_slots, silence, slots_from, allocate_block_of};
-ghost use Rattle.blocks.specs.Side.{bad_code, deltbae_of, field_ask, with_segment, segment_of, segments_of, slot_delta_of, beside, so_far_of, delta_told_of, delta_read_of, settled, settled_of};
+ghost use Rattle.alloc.specs.Answers.{filled, allocate_of};
+ghost use Rattle.blocks.specs.Block.{bai_fits, leak_fits, sent_fit, others_fit, deltas_fit, codes_fit, quiet_from, no_delta, shared_of, codes_by, leak_at, delta_at, slot_by, asked, uncovered, lacks_leak, slot_of, filled_slots, silence, slots_from, allocate_block_of};
+ghost use Rattle.blocks.specs.Side.{bad_code, deltbae_of, field_ask, with_segment, segment_of, segments_of, slot_delta_of, reached, beside};
 
-use alloc::{Codes, Ended, Leak};
-use bits::Put;
+use alloc::{Codes, Leak};
 use refusal::{Refusal, Why};
-use syntax::{Ask, Place, Reader, Role, names};
+use syntax::cursor::{Cursor, read_next};
+use syntax::{Ask, Moved, Place, Role, names};
 use tables::{Bin, CPL, Delta, LFE, SLOTS};
 
-// The side information that a frame's blocks carry on, by its names in TS, not yet decoded. Beside what may be unsent stands whether it
-// was sent: the five parameters, csnroffst, and the coupling leak. The segments are those of each slot.
+// No segments.
+pub const NO_DELTA: Delta = Delta {
+    count: 0,
+    offset: [0; 8],
+    len: [0; 8],
+    ba: [0; 8],
+};
+
+// The five parameters, which are sent together, by their names in TS, not yet decoded.
 #[derive(Clone, Copy)]
-pub struct AllocState {
-    pub bai_sent: bool,
+pub struct Bai {
     pub sdcycod: u8,
     pub fdcycod: u8,
     pub sgaincod: u8,
     pub dbpbcod: u8,
     pub floorcod: u8,
-    pub csnroffst_sent: bool,
-    pub csnroffst: u8,
+}
+
+// The side information that a frame's blocks carry on, by its names in TS, not yet decoded: the five parameters, csnroffst and the
+// coupling leak where they were sent, and the rest of each slot, an array for each part, as C holds it.
+#[derive(Clone, Copy)]
+pub struct AllocState {
+    pub bai: Option<Bai>,
+    pub csnroffst: Option<u8>,
     pub fsnroffst: [u8; SLOTS],
     pub fgaincod: [u8; SLOTS],
-    pub cplleak_sent: bool,
-    pub cplfleak: u8,
-    pub cplsleak: u8,
+    pub cplleak: Option<Leak>,
     pub delta: [Delta; SLOTS],
 }
 
+// What the codes of a block's slots share.
+#[derive(Clone, Copy)]
+struct Shared {
+    bai: Bai,
+    csnroffst: u8,
+    fscod: u8,
+}
+
+// A block that has been tested: its state, what the codes of its slots share, and the lent tables.
+#[derive(Clone, Copy)]
+struct Block<'a> {
+    state: &'a AllocState,
+    shared: Shared,
+    hearing: &'a [u16],
+    log_add: &'a [u8],
+}
+
+// What is asked for a slot: whether it is there, whether its pointers are hebap, its exponents, and their range and the range asked for,
+// each from its start to its end.
+// present and high are C's flags, and `slot_by` has them so: an Option of the rest would be built and taken apart once a slot.
+#[derive(Clone, Copy)]
+struct Slot<'a> {
+    present: bool,
+    high: bool,
+    exp: &'a [u8; 256],
+    range: [usize; 4],
+}
+
 // Whether the five parameters are in their tables.
-fn bai_fits(state: AllocState) -> bool
-    ensures { result ≡ bai_fits state }
+fn bai_fits(bai: Bai) -> bool
+    ensures { result ≡ bai_fits bai }
 {
-    if state.sdcycod > 3 {
-        return false;
-    }
-    if state.fdcycod > 3 {
-        return false;
-    }
-    if state.sgaincod > 3 {
-        return false;
-    }
-    if state.dbpbcod > 3 {
-        return false;
-    }
-    state.floorcod <= 7
+    bai.sdcycod <= 3
+        && bai.fdcycod <= 3
+        && bai.sgaincod <= 3
+        && bai.dbpbcod <= 3
+        && bai.floorcod <= 7
 }
 
 // Whether the coupling leak's codes are in their table.
-fn leak_fits(state: AllocState) -> bool
-    ensures { result ≡ leak_fits state }
+fn leak_fits(leak: Leak) -> bool
+    ensures { result ≡ leak_fits leak }
 {
-    if state.cplfleak > 7 {
-        return false;
-    }
-    state.cplsleak <= 7
-}
-
-// Whether a code fits, or was not sent.
-fn if_sent(sent: bool, fits: bool) -> bool
-    ensures { result ≡ if_sent sent fits }
-{
-    if sent {
-        return fits;
-    }
-    true
+    leak.cplfleak <= 7 && leak.cplsleak <= 7
 }
 
 // Whether the codes that were sent are in their tables.
-fn sent_fit(state: AllocState) -> bool
-    ensures { result ≡ sent_fit state }
+#[tactic(auto, unfolding(crate::specs::Block::sent_fit))]
+fn sent_fit(state: &AllocState) -> bool
+    ensures { result ≡ sent_fit state.now }
 {
-    if !if_sent(state.bai_sent, bai_fits(state)) {
-        return false;
-    }
-    if !if_sent(state.csnroffst_sent, state.csnroffst <= 63) {
-        return false;
-    }
-    if_sent(state.cplleak_sent, leak_fits(state))
+    state.bai.is_none_or(bai_fits)
+        && state.csnroffst.is_none_or(|csnroffst| csnroffst <= 63)
+        && state.cplleak.is_none_or(leak_fits)
 }
 
 // Whether the codes that every slot has, and fscod, are in their tables.
-fn others_fit(state: AllocState, fscod: u8) -> bool
-    ensures { result ≡ others_fit state fscod }
+#[tactic(auto, unfolding(crate::specs::Block::others_fit))]
+fn others_fit(state: &AllocState, fscod: u8) -> bool
+    ensures { result ≡ others_fit state.now fscod }
 {
-    let gain = state.fgaincod;
-    if !tables::all_upto(&gain, 0, SLOTS, 7) {
-        return false;
-    }
-    let fine = state.fsnroffst;
-    if !tables::all_upto(&fine, 0, SLOTS, 15) {
-        return false;
-    }
-    fscod <= 2
+    tables::all_upto(&state.fgaincod, 0, SLOTS, 7)
+        && tables::all_upto(&state.fsnroffst, 0, SLOTS, 15)
+        && fscod <= 2
 }
 
 // Whether every slot's segments are fit.
-fn deltas_fit(state: AllocState) -> bool
-    ensures { result ≡ deltas_fit state.delta }
+#[tactic(auto, unfolding(crate::specs::Block::deltas_fit))]
+fn deltas_fit(state: &AllocState) -> bool
+    ensures { result ≡ deltas_fit state.now.delta }
 {
-    let mut i: usize = 0;
-    while i < SLOTS {
-        if !tables::delta_fits(state.delta[i]) {
-            return false;
-        }
-        i += 1;
-    }
-    true
+    state.delta.iter().all(|delta| tables::delta_fits(*delta))
 }
 
 // Whether no code is past its table.
-fn codes_fit(state: AllocState, fscod: u8) -> bool
-    ensures { result ≡ codes_fit state fscod }
+#[tactic(auto, unfolding(crate::specs::Block::codes_fit))]
+fn codes_fit(state: &AllocState, fscod: u8) -> bool
+    ensures { result ≡ codes_fit state.now fscod }
 {
-    if !sent_fit(state) {
-        return false;
-    }
-    if !others_fit(state, fscod) {
-        return false;
-    }
-    deltas_fit(state)
-}
-
-// Whether a slot is not there, or has no fine offset.
-fn is_quiet(present: bool, fsnroffst: u8) -> bool
-    ensures { result ≡ (not present || eqb fsnroffst 0) }
-{
-    if present {
-        return fsnroffst == 0;
-    }
-    true
+    sent_fit(state) && others_fit(state, fscod) && deltas_fit(state)
 }
 
 // Whether no slot that is there has a fine offset, whatever else is asked for it.
-fn quiet_slots(state: AllocState, present: &[bool; SLOTS]) -> bool
-    ensures { (high : List Bool) (exponents ranges : List (List ℕ)) → result ≡ quiet_from state.fsnroffst 0 (asked present.now high exponents ranges) }
+#[tactic(auto, using(crate::proofs::Turns::quiet_not, crate::proofs::Turns::quiet_fine, crate::proofs::Turns::quiet_absent, crate::proofs::Turns::quiet_end))]
+fn quiet_slots(state: &AllocState, present: &[bool; SLOTS]) -> bool
+    ensures { (high : List Bool) (exponents ranges : List (List ℕ)) → result ≡ quiet_from state.now.fsnroffst 0 (asked present.now high exponents ranges) }
 {
-    let mut i: usize = 0;
-    while i < SLOTS {
-        if !is_quiet(present[i], state.fsnroffst[i]) {
+    for i in 0..SLOTS {
+        let fsnroffst = state.fsnroffst[i];
+        if present[i] && fsnroffst != 0 {
             return false;
         }
-        i += 1;
     }
     true
 }
 
 // Whether no offset is in use.
-fn all_quiet(state: AllocState, present: &[bool; SLOTS]) -> bool
-    ensures { (high : List Bool) (exponents ranges : List (List ℕ)) → result ≡ quiet state (asked present.now high exponents ranges) }
+fn all_quiet(state: &AllocState, csnroffst: u8, present: &[bool; SLOTS]) -> bool
+    ensures { (high : List Bool) (exponents ranges : List (List ℕ)) → result ≡ (eqb csnroffst 0 && quiet_from state.now.fsnroffst 0 (asked present.now high exponents ranges)) }
 {
-    if state.csnroffst == 0 {
-        return quiet_slots(state, present);
-    }
-    false
+    csnroffst == 0 && quiet_slots(state, present)
 }
 
 // The codes of a slot.
-fn codes_of(state: AllocState, fscod: u8, i: usize) -> Codes
+// `Codes` has the five parameters by themselves, as its public names are: this place alone copies them.
+fn codes_of(state: &AllocState, shared: Shared, i: usize) -> Codes
     requires { i < slot_count }
-    ensures { result ≡ codes_at state fscod i }
+    ensures { result ≡ codes_by shared state.now i }
 {
-    let gain = state.fgaincod[i];
-    let fine = state.fsnroffst[i];
+    let Shared {
+        bai,
+        csnroffst,
+        fscod,
+    } = shared;
     Codes {
-        sdcycod: state.sdcycod,
-        fdcycod: state.fdcycod,
-        sgaincod: state.sgaincod,
-        dbpbcod: state.dbpbcod,
-        floorcod: state.floorcod,
-        fgaincod: gain,
-        csnroffst: state.csnroffst,
-        fsnroffst: fine,
-        fscod: fscod,
+        sdcycod: bai.sdcycod,
+        fdcycod: bai.fdcycod,
+        sgaincod: bai.sgaincod,
+        dbpbcod: bai.dbpbcod,
+        floorcod: bai.floorcod,
+        fgaincod: state.fgaincod[i],
+        csnroffst,
+        fsnroffst: state.fsnroffst[i],
+        fscod,
     }
 }
 
 // The leak that a slot begins with: coupling has one.
-fn leak_of(state: AllocState, i: usize) -> Leak
-    ensures { result ≡ leak_at state i }
+// Slots are numbers: C hands any over, and 6 is told for one that is none. Functions and no methods, here and below: their definitions and edits
+// have these names.
+#[tactic(auto, unfolding(crate::specs::Block::leak_at))]
+fn leak_of(state: &AllocState, i: usize) -> Option<Leak>
+    ensures { result ≡ leak_at state.now i }
 {
-    if i == CPL {
-        return Leak::Codes(state.cplfleak, state.cplsleak);
-    }
-    Leak::None
-}
-
-// No segments.
-fn no_delta() -> Delta
-    ensures { result ≡ no_delta }
-{
-    Delta {
-        count: 0,
-        offset: [0; 8],
-        len: [0; 8],
-        ba: [0; 8],
-    }
+    if i == CPL { state.cplleak } else { None }
 }
 
 // The segments that apply to a slot: LFE takes none.
-fn delta_of(state: AllocState, i: usize) -> Delta
+#[tactic(auto, unfolding(crate::specs::Block::delta_at))]
+fn delta_of(state: &AllocState, i: usize) -> Delta
     requires { i < slot_count }
-    ensures { result ≡ delta_at state i }
+    ensures { result ≡ delta_at state.now i }
 {
-    if i == LFE {
-        return no_delta();
-    }
-    state.delta[i]
+    if i == LFE { NO_DELTA } else { state.delta[i] }
 }
 
 // Whether the exponents don't cover the range asked for, whatever else is asked for the slot.
+// Four numbers, as C hands them over and `slot_by` has them.
+#[tactic(auto, unfolding(crate::specs::Block::uncovered))]
 fn is_uncovered(range: [usize; 4]) -> bool
     ensures { (present high : Bool) (exp : List ℕ) → result ≡ uncovered (slot_by present high exp range) }
 {
-    if range[0] > range[2] {
-        return true;
-    }
-    range[1] < range[3]
+    range[0] > range[2] || range[1] < range[3]
 }
 
 // Whether a slot needs a leak that was not sent.
-fn lacks_leak(state: AllocState, i: usize) -> bool
-    ensures { result ≡ lacks_leak state i }
+#[tactic(auto, unfolding(crate::specs::Block::lacks_leak))]
+fn lacks_leak(state: &AllocState, i: usize) -> bool
+    ensures { result ≡ lacks_leak state.now i }
 {
-    if i == CPL {
-        return !state.cplleak_sent;
-    }
-    false
-}
-
-// A slot that is refused.
-fn refused_slot(why: Why) -> Ended
-    ensures { ended_of result ≡ refused_of (grounds (number_of why) 0) }
-{
-    let r = Refusal { why: why, bit: 0 };
-    Ended::Refused(r)
+    i == CPL && state.cplleak.is_none()
 }
 
 // A slot's channel alone, into its row.
 fn channel_of(
-    state: AllocState,
-    fscod: u8,
+    block: Block<'_>,
     i: usize,
-    high: bool,
-    exp: &[u8; 256],
-    start: Bin,
-    end: Bin,
-    hearing: &[u16],
-    log_add: &[u8],
+    slot: Slot<'_>,
     row: &mut [u8; 256],
-) -> Ended
+) -> Result<(), Refusal>
     requires { i < slot_count }
-    ensures { allocated_of result row.new ≡ allocate_of exp.now start.0 end.0 (codes_at state fscod i) (leak_at state i) (delta_at state i) (pointers_by high) hearing.now log_add.now }
+    ensures { let b = block.entry in let s = slot.entry in ran_of result row.new ≡ allocate_of s.exp.now (slice_index s.range 2) (slice_index s.range 3) (codes_by b.shared b.state.now i) (leak_at b.state.now i) (delta_at b.state.now i) (pointers_by s.high) b.hearing.now b.log_add.now }
 {
-    let codes = codes_of(state, fscod, i);
-    let leak = leak_of(state, i);
-    let delta = delta_of(state, i);
-    let which = tables::pointers_by(high);
     alloc::allocate(
-        exp, start, end, codes, leak, delta, which, hearing, log_add, row,
+        slot.exp,
+        Bin(slot.range[2]),
+        Bin(slot.range[3]),
+        codes_of(block.state, block.shared, i),
+        leak_of(block.state, i),
+        delta_of(block.state, i),
+        tables::pointers_by(slot.high),
+        block.hearing,
+        block.log_add,
+        row,
     )
 }
 
 // One slot, into its row of zeros: 12 where its exponents don't cover the range, 10 for a leak not sent, then the channel alone.
-fn fill_slot(
-    state: AllocState,
-    fscod: u8,
-    i: usize,
-    present: bool,
-    high: bool,
-    exp: &[u8; 256],
-    range: [usize; 4],
-    hearing: &[u16],
-    log_add: &[u8],
-    row: &mut [u8; 256],
-) -> Ended
-    requires { (i < slot_count) × (row.old ≡ zeros) }
-    ensures { allocated_of result row.new ≡ filled (slot_of state fscod hearing.now log_add.now i (slot_by present high exp.now range)) }
+#[tactic(auto, using(crate::proofs::Cases::alone_filled), unfolding(crate::specs::Block::slot_of, crate::specs::Block::codes_at))]
+fn fill_slot(block: Block<'_>, i: usize, slot: Slot<'_>, row: &mut [u8; 256]) -> Result<(), Refusal>
+    requires slot { i < slot_count }
+    requires blank { row.old ≡ zeros }
+    requires shared { block.shared ≡ shared_of block.state.now block.shared.fscod }
+    ensures { let b = block.entry in let s = slot.entry in ran_of result row.new ≡ filled (slot_of b.state.now b.shared.fscod b.hearing.now b.log_add.now i (slot_by s.present s.high s.exp.now s.range)) }
 {
-    if !present {
-        return Ended::Done;
+    if !slot.present {
+        return Ok(());
     }
-    let uncovered = is_uncovered(range);
-    let lacks = lacks_leak(state, i);
-    if uncovered {
-        return refused_slot(Why::NotCovered);
+    if is_uncovered(slot.range) {
+        return Err(Why::NotCovered.at(0));
     }
-    if lacks {
-        return refused_slot(Why::NotSent);
+    if lacks_leak(block.state, i) {
+        return Err(Why::NotSent.at(0));
     }
-    let a = Bin(range[2]);
-    let e = Bin(range[3]);
-    channel_of(state, fscod, i, high, exp, a, e, hearing, log_add, row)
+    channel_of(block, i, slot, row)
 }
 
 // Zeros for every slot.
 fn zero_rows(bap: &mut [[u8; 256]; SLOTS])
     ensures { bap.new ≡ silence }
 {
-    let zero: [u8; 256] = [0; 256];
-    *bap = [zero; SLOTS];
+    *bap = [[0; 256]; SLOTS];
 }
 
-// The slots in order, each into its row of zeros, up to the first that is refused.
+// The slots in order, each into its row of zeros, up to the first that is refused. What is asked for them stands in an array for each part,
+// as C lends it.
+#[tactic(auto, using(crate::proofs::Turns::slots_stop, crate::proofs::Turns::slots_end, crate::proofs::Cases::slot_refused), unfolding(crate::specs::Block::slot_at))]
 fn fill_slots(
-    state: AllocState,
-    fscod: u8,
+    block: Block<'_>,
     present: &[bool; SLOTS],
     high: &[bool; SLOTS],
     exponents: &[[u8; 256]; SLOTS],
     ranges: &[[usize; 4]; SLOTS],
-    hearing: &[u16],
-    log_add: &[u8],
     bap: &mut [[u8; 256]; SLOTS],
-) -> Put
-    requires { bap.old ≡ silence }
-    ensures { block_of result bap.new ≡ filled_slots (slots_from state fscod hearing.now log_add.now 0 (asked present.now high.now exponents.now ranges.now)) }
+) -> Result<(), Refusal>
+    requires blank { bap.old ≡ silence }
+    requires shared { block.shared ≡ shared_of block.state.now block.shared.fscod }
+    ensures { let b = block.entry in ran_of result bap.new ≡ filled_slots (slots_from b.state.now b.shared.fscod b.hearing.now b.log_add.now 0 (asked present.now high.now exponents.now ranges.now)) }
 {
-    let mut i: usize = 0;
-    while i < SLOTS {
-        let one = fill_slot(
-            state,
-            fscod,
-            i,
-            present[i],
-            high[i],
-            &exponents[i],
-            ranges[i],
-            hearing,
-            log_add,
-            &mut bap[i],
-        );
-        if let Ended::Refused(r) = one {
+    for i in 0..SLOTS {
+        let slot = Slot {
+            present: present[i],
+            high: high[i],
+            exp: &exponents[i],
+            range: ranges[i],
+        };
+        let one = fill_slot(block, i, slot, &mut bap[i]);
+        if let Err(r) = one {
             zero_rows(bap);
-            return Put::Refused(r);
+            return Err(r);
         }
-        i += 1;
     }
-    Put::Done
-}
-
-// A block that is refused whatever its slots ask.
-fn refused(why: Why) -> Put
-    ensures { done_of result ≡ refused_of (grounds (number_of why) 0) }
-{
-    let r = Refusal { why: why, bit: 0 };
-    Put::Refused(r)
+    Ok(())
 }
 
 // What every block is tested for first, which is all that one without slots is tested for: 21 for unfit tables, 11 for a code past its table,
-// 10 for csnroffst or the parameters not sent.
-fn first_tests(state: AllocState, fscod: u8, hearing: &[u16], log_add: &[u8]) -> Put
-    ensures { done_of result ≡ (allocate_block_of state fscod [] hearing.now log_add.now).outcome }
+// 10 for csnroffst or the parameters not sent. What passes shares these.
+#[tactic(auto, unfolding(crate::specs::Block::allocate_block_of, crate::specs::Block::slots_from))]
+fn first_tests(
+    state: &AllocState,
+    fscod: u8,
+    hearing: &[u16],
+    log_add: &[u8],
+) -> Result<Shared, Refusal>
+    ensures { outcome_of result ≡ and_then (allocate_block_of state.now fscod [] hearing.now log_add.now).outcome (λ _. taken (shared_of state.now fscod)) }
 {
     if !tables::tables_fit(hearing, log_add) {
-        return refused(Why::BadTables);
+        return Err(Why::BadTables.at(0));
     }
     if !codes_fit(state, fscod) {
-        return refused(Why::CodePastTable);
+        return Err(Why::CodePastTable.at(0));
     }
-    if !state.csnroffst_sent {
-        return refused(Why::NotSent);
-    }
-    if !state.bai_sent {
-        return refused(Why::NotSent);
-    }
-    Put::Done
+    let Some(csnroffst) = state.csnroffst else {
+        return Err(Why::NotSent.at(0));
+    };
+    let Some(bai) = state.bai else {
+        return Err(Why::NotSent.at(0));
+    };
+    Ok(Shared {
+        bai,
+        csnroffst,
+        fscod,
+    })
 }
 
 // The pointers of a block's slots, into a row for each. Of each slot it takes whether it is there, whether its pointers are hebap, its exponents,
 // and their range and the range asked for, each from its start to its end. What `first_tests` refuses; zeros where no offset is in use; else
 // slot by slot 12, 10 for the leak, and what the channel alone answers. On refusal all rows are zeros.
+#[tactic(auto, using(crate::proofs::Cases::block_own, crate::proofs::Cases::block_quiet, crate::proofs::Cases::block_slots))]
 pub fn allocate_block(
     state: AllocState,
     fscod: u8,
@@ -392,87 +338,47 @@ pub fn allocate_block(
     hearing: &[u16],
     log_add: &[u8],
     bap: &mut [[u8; 256]; SLOTS],
-) -> Put
-    ensures { block_of result bap.new ≡ allocate_block_of state fscod (asked present.now high.now exponents.now ranges.now) hearing.now log_add.now }
+) -> Result<(), Refusal>
+    ensures { ran_of result bap.new ≡ allocate_block_of state fscod (asked present.now high.now exponents.now ranges.now) hearing.now log_add.now }
 {
     zero_rows(bap);
-    let first = first_tests(state, fscod, hearing, log_add);
-    if let Put::Refused(r) = first {
-        return Put::Refused(r);
+    let shared = first_tests(&state, fscod, hearing, log_add)?;
+    if all_quiet(&state, shared.csnroffst, present) {
+        return Ok(());
     }
-    if all_quiet(state, present) {
-        return Put::Done;
-    }
-    fill_slots(
-        state, fscod, present, high, exponents, ranges, hearing, log_add, bap,
-    )
-}
-
-// What a delta code or a reading of segments comes to, and the slot's segments after it.
-#[derive(Clone, Copy)]
-pub struct DeltaTold {
-    pub answer: Put,
-    pub delta: Delta,
-}
-
-// What reading a slot's segments answers, and the place and the segments after it.
-#[derive(Clone, Copy)]
-pub struct DeltaRead {
-    pub answer: Put,
-    pub place: Place,
-    pub delta: Delta,
-}
-
-// A reader, and the segments that it has read so far.
-#[derive(Clone, Copy)]
-struct SoFar {
-    reader: Reader,
-    delta: Delta,
+    let block = Block {
+        state: &state,
+        shared,
+        hearing,
+        log_add,
+    };
+    fill_slots(block, present, high, exponents, ranges, bap)
 }
 
 // Whether a deltbae code is refused: there is nothing to keep in block 0, and none above 2.
+// deltbae is a number, as C hands it over and the definition has it.
 fn is_bad_code(code: u32, block0: bool) -> bool
     ensures { result ≡ bad_code code block0 }
 {
-    match code {
-        0 => block0,
-        1..=2 => false,
-        _ => true,
-    }
+    code > 2 || (code == 0 && block0)
 }
 
-// A deltbae code that is refused: the segments stay.
-fn refused_code(why: Why, delta: Delta) -> DeltaTold
-    ensures { delta_told_of result ≡ record { outcome = refused_of (grounds (number_of why) 0); state = delta } }
-{
-    let r = Refusal { why: why, bit: 0 };
-    DeltaTold {
-        answer: Put::Refused(r),
-        delta: delta,
-    }
-}
-
-// A slot's deltbae code: 6 for the slot, then 15; 2 ends its segments, 0 and 1 leave them.
-pub fn delta_code(delta: Delta, slot: usize, code: u32, block0: bool) -> DeltaTold
-    ensures { delta_told_of result ≡ leaves delta (deltbae_of delta slot code block0) }
+// The segments that a slot's deltbae code leaves it: 6 for the slot, then 15; 2 ends its segments, 0 and 1 leave them.
+#[tactic(auto, unfolding(crate::specs::Side::deltbae_of))]
+pub fn delta_code(before: Delta, slot: usize, code: u32, block0: bool) -> Result<Delta, Refusal>
+    ensures { outcome_of result ≡ deltbae_of before slot code block0 }
 {
     if slot > LFE {
-        return refused_code(Why::BadArgument, delta);
+        return Err(Why::BadArgument.at(0));
     }
-    let none = no_delta();
     if is_bad_code(code, block0) {
-        return refused_code(Why::BadDelta, delta);
+        return Err(Why::BadDelta.at(0));
     }
+    // A branch and no value that is chosen: the segments would be copied on their way, a third of a call.
     if code == 2 {
-        return DeltaTold {
-            answer: Put::Done,
-            delta: none,
-        };
+        return Ok(NO_DELTA);
     }
-    DeltaTold {
-        answer: Put::Done,
-        delta: delta,
-    }
+    Ok(before)
 }
 
 // An element of a slot's segments. Coupling has names of its own.
@@ -480,159 +386,86 @@ fn field(name: u32, cpl_name: u32, width: usize, slot: usize) -> Ask
     requires { slot < slot_count }
     ensures { result ≡ field_ask name cpl_name width slot }
 {
-    let index = slot as i16;
-    if slot == CPL {
-        return Ask {
-            name: cpl_name,
-            role: Role::Plain,
-            index: index,
-            width: width,
-        };
-    }
     Ask {
-        name: name,
+        name: if slot == CPL { cpl_name } else { name },
         role: Role::Plain,
-        index: index,
-        width: width,
+        index: slot as i16,
+        width,
     }
-}
-
-// A code as a byte.
-fn byte(v: u32) -> u8
-    requires { v < 256 }
-    ensures { result ≡ v }
-{
-    v as u8
 }
 
 // One segment more.
-fn put_segment(delta: Delta, offset: u8, len: u8, ba: u8) -> Delta
-    requires { delta.count < 8 }
-    ensures { result ≡ with_segment delta offset len ba }
+fn put_segment(delta: &mut Delta, offset: u8, len: u8, ba: u8)
+    requires { delta.old.count < 8 }
+    ensures { delta.new ≡ with_segment delta.old offset len ba }
 {
-    let mut d = delta;
     let k = delta.count as usize;
-    d.offset[k] = offset;
-    d.len[k] = len;
-    d.ba[k] = ba;
-    d.count = delta.count + 1;
-    d
+    delta.offset[k] = offset;
+    delta.len[k] = len;
+    delta.ba[k] = ba;
+    delta.count += 1;
 }
 
 // Reads one segment more.
-fn segment(frame: &[u8], log: &mut [u32], w: SoFar, slot: usize) -> SoFar
-    requires { (slot < slot_count) × (w.delta.count < 8) }
-    ensures { (so_far_of result log.new ≡ then_run (so_far_of w log.old) (λ d st. segment_of frame.now slot d st)) × (result.delta.count ≡ w.delta.count + 1) }
+fn segment(
+    c: &mut Cursor<'_>,
+    log: &mut [u32],
+    slot: usize,
+    delta: &mut Delta,
+) -> Result<(), Refusal>
+    requires slot { slot < slot_count }
+    requires room { delta.old.count < 8 }
+    ensures run { beside (held_of (outcome_of result) c.new log.new) delta.new ≡ over c.old (segment_of c.old.bytes.now slot delta.old (standing c.old.place log.old)) }
+    ensures more { delta.new.count ≤ delta.old.count + 1 }
 {
-    let r = w.reader;
-    let d = w.delta;
-    let o = syntax::next(
-        frame,
+    let offset = read_next(
+        c,
         log,
-        r,
         field(names::DELTOFFST, names::CPLDELTOFFST, 5, slot),
-    );
-    let l = syntax::next(
-        frame,
-        log,
-        o,
-        field(names::DELTLEN, names::CPLDELTLEN, 4, slot),
-    );
-    let b = syntax::next(
-        frame,
-        log,
-        l,
-        field(names::DELTBA, names::CPLDELTBA, 3, slot),
-    );
-    let e = put_segment(d, byte(o.value), byte(l.value), byte(b.value));
-    SoFar {
-        reader: b,
-        delta: e,
-    }
+    )?;
+    let len = read_next(c, log, field(names::DELTLEN, names::CPLDELTLEN, 4, slot))?;
+    let ba = read_next(c, log, field(names::DELTBA, names::CPLDELTBA, 3, slot))?;
+    put_segment(delta, offset as u8, len as u8, ba as u8);
+    Ok(())
 }
 
 // Reads n segments.
-fn segments(frame: &[u8], log: &mut [u32], reader: Reader, slot: usize, n: usize) -> SoFar
-    requires { (slot < slot_count) × (n ≤ 8) }
-    ensures { so_far_of result log.new ≡ segments_of frame.now slot n (beside (reader_of reader log.old) no_delta) }
+#[tactic(auto, using(crate::proofs::SideLaws::segments_turn), unfolding(crate::specs::Side::segments_of))]
+fn segments(c: &mut Cursor<'_>, log: &mut [u32], slot: usize, n: usize) -> Result<Delta, Refusal>
+    requires slot { slot < slot_count }
+    requires room { n ≤ 8 }
+    ensures { held_of (outcome_of result) c.new log.new ≡ over c.old (segments_of c.old.bytes.now slot n (reached no_delta (standing c.old.place log.old))) }
 {
-    let none = no_delta();
-    let mut w = SoFar {
-        reader: reader,
-        delta: none,
-    };
-    let mut k: usize = 0;
-    while k < n {
-        w = segment(frame, log, w, slot);
-        k += 1;
+    let mut delta = NO_DELTA;
+    for _ in 0..n {
+        segment(c, log, slot, &mut delta)?;
     }
-    w
+    Ok(delta)
 }
 
-// The segments that were read, or those of before where the reader was refused.
-fn kept(delta: Delta, w: SoFar) -> DeltaTold
-    ensures { delta_told_of result ≡ leaves delta (and_then (seen_of w.reader.answer w.reader.value) (λ _. taken w.delta)) }
+// Reads a slot's segments at a cursor.
+#[tactic(auto, using(crate::proofs::SideLaws::delta_6, crate::proofs::SideLaws::nseg_on))]
+fn slot_delta(c: &mut Cursor<'_>, log: &mut [u32], slot: usize) -> Result<Delta, Refusal>
+    ensures { held_of (outcome_of result) c.new log.new ≡ over c.old (slot_delta_of c.old.bytes.now (standing c.old.place log.old) slot) }
 {
-    let reader = w.reader;
-    let answer = reader.answer;
-    if let Put::Refused(r) = answer {
-        return DeltaTold {
-            answer: Put::Refused(r),
-            delta: delta,
-        };
+    if slot > LFE {
+        return Err(Why::BadArgument.at(c.place.pos));
     }
-    let read = w.delta;
-    DeltaTold {
-        answer: Put::Done,
-        delta: read,
-    }
-}
-
-// No segments: 6, where the cursor stands.
-fn unread(place: Place, delta: Delta) -> DeltaRead
-    ensures { (log : List ℕ) → delta_read_of result log ≡ record { outcome = refused_of (grounds 6 place.pos); state = settled (standing place log) delta } }
-{
-    let r = Refusal {
-        why: Why::BadArgument,
-        bit: place.pos,
-    };
-    DeltaRead {
-        answer: Put::Refused(r),
-        place: place,
-        delta: delta,
-    }
+    let nseg = read_next(c, log, field(names::DELTNSEG, names::CPLDELTNSEG, 3, slot))?;
+    segments(c, log, slot, nseg as usize + 1)
 }
 
 // Reads a slot's segments, deltnseg and one more than it says: 6 for the slot, then what a read is refused with.
-pub fn read_delta(
-    frame: &[u8],
-    log: &mut [u32],
-    place: Place,
-    delta: Delta,
-    slot: usize,
-) -> DeltaRead
-    ensures { delta_read_of result log.new ≡ settled_of delta (slot_delta_of frame.now (standing place log.old) slot) }
+pub fn read_delta(frame: &[u8], log: &mut [u32], place: Place, slot: usize) -> Moved<Delta>
+    ensures { moved_of result log.new ≡ slot_delta_of frame.now (standing place log.old) slot }
 {
-    if slot > LFE {
-        return unread(place, delta);
-    }
-    let first = syntax::begin(place);
-    let nseg = syntax::next(
-        frame,
-        log,
-        first,
-        field(names::DELTNSEG, names::CPLDELTNSEG, 3, slot),
-    );
-    let n = (nseg.value as usize) + 1;
-    let w = segments(frame, log, nseg, slot, n);
-    let told = kept(delta, w);
-    let reader = w.reader;
-    let at = reader.place;
-    let answer = told.answer;
-    let after = told.delta;
-    DeltaRead {
-        answer: answer,
-        place: at,
-        delta: after,
+    let mut c = Cursor {
+        bytes: frame,
+        place,
+    };
+    let answer = slot_delta(&mut c, log, slot);
+    Moved {
+        answer,
+        place: c.place,
     }
 }

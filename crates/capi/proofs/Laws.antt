@@ -1,6 +1,6 @@
 -- What a caller is left with after a call over a cursor, from what the call below answers.
 -- Assumes nothing.
-use mathlib.Core.Path.{◌≡◌, refl, ap, ap₂, ◌∙◌}
+use mathlib.Core.Path.{◌≡◌, refl, ap, ◌∙◌}
 use mathlib.Core.List.{List}
 use Prim.Native.Nat.{ℕ}
 use Rattle.refusal.specs.Refusals.{Outcome, Ran}
@@ -9,6 +9,7 @@ use Rattle.syntax.specs.declared.Role.{Role}
 use Rattle.syntax.specs.Reads.{Standing, standing, close_of}
 use Rattle.syntax.proofs.ReadLaws.{close_either}
 use Rattle.alloc.specs.declared.Codes.{Codes}
+use Rattle.std.specs.Prelude.{Option}
 use Rattle.alloc.specs.declared.Leak.{Leak}
 use Rattle.tables.specs.declared.Delta.{Delta}
 use Rattle.tables.specs.declared.Pointers.{Pointers}
@@ -17,13 +18,10 @@ use Rattle.walks.specs.declared.Groups.{Groups}
 use Rattle.walks.specs.Walk.{State, state}
 use Rattle.exponents.specs.declared.ExpSet.{ExpSet}
 use Rattle.exponents.specs.Reads.{Left, left}
-use Rattle.blocks.specs.declared.AllocState.{AllocState}
-use Rattle.blocks.specs.Side.{Settled}
 use Rattle.convention.specs.Replies.{Told, told, told_of, Reply, reply, reply_of}
 use Rattle.capi.specs.Standings.{stood, stood_of, moved, moved_of, advanced, advanced_of}
 use Rattle.capi.specs.Walks.{carried, carried_of}
 use Rattle.capi.specs.Sets.{unpacked, unpacked_of}
-use Rattle.capi.specs.States.{rows_after, kept, kept_of, gathered, gathered_of}
 use Rattle.capi.specs.Blocks.{pointed, pointed_of}
 
 -- a call over a state, which is s after it: p is what its contract says, o what its answer means
@@ -46,17 +44,6 @@ module _ {o : Outcome Unit} {place : Place} {log : List ℕ} {set : ExpSet} {p :
   pub unpacked_as : {k b : ℕ} → told k b ≡ told_of o → unpacked k b place.pos place.count log set ≡ unpacked_of p
   unpacked_as t = ap (λ (w : Told). record { moved = record { told = w; pos = place.pos; count = place.count; log = log }; set = set }) t ∙ ap unpacked_of e
 
--- the same over the rows of an allocation state
-module _ {o : Outcome Unit} {st : AllocState} {p : Ran AllocState Unit} (before : List (List ℕ)) {after : List (List ℕ)} (laid : after ≡ rows_after before st) (e : record { outcome = o; state = st } ≡ p) where
-  pub kept_as : {k b : ℕ} → told k b ≡ told_of o → kept k b after ≡ kept_of before p
-  kept_as t = ap₂ (λ (w : Told) (rows : List (List ℕ)). record { told = w; rows = rows }) t laid ∙ ap (kept_of before) e
-
-module _ {o : Outcome Unit} {place : Place} {log : List ℕ} {st : AllocState} {p : Ran (Settled AllocState) Unit} (before : List (List ℕ)) {after : List (List ℕ)} (laid : after ≡ rows_after before st) (e : record { outcome = o; state = record { standing = standing place log; state = st } } ≡ p) where
-  pub gathered_as : {k b : ℕ} → told k b ≡ told_of o → gathered k b place.pos place.count log after ≡ gathered_of before p
-  gathered_as t =
-      ap₂ (λ (w : Told) (rows : List (List ℕ)). record { moved = record { told = w; pos = place.pos; count = place.count; log = log }; rows = rows }) t laid
-      ∙ ap (gathered_of before) e
-
 -- the same of a block
 module _ {o : Outcome Unit} {bap : List (List ℕ)} {p : Ran (List (List ℕ)) Unit} (e : record { outcome = o; state = bap } ≡ p) where
   pub pointed_as : {k b : ℕ} → told k b ≡ told_of o → pointed k b bap ≡ pointed_of p
@@ -67,7 +54,7 @@ pub close_stays : (len : ℕ) (st : Standing) (name : ℕ) (role : Role) (start 
 close_stays len st name role start = close_either len st name role start (λ s. s.place.pos ≡ st.place.pos) refl (λ f. refl)
 
 -- an allocation by side information that is the same
-pub allocated_alike : (exp : List ℕ) (start end : ℕ) (hearing log_add : List ℕ) {k k' : Codes} {l l' : Leak} {d d' : Delta} {w w' : Pointers}
+pub allocated_alike : (exp : List ℕ) (start end : ℕ) (hearing log_add : List ℕ) {k k' : Codes} {l l' : Option Leak} {d d' : Delta} {w w' : Pointers}
     → k ≡ k' → l ≡ l' → d ≡ d' → w ≡ w'
     → allocate_of exp start end k l d w hearing log_add ≡ allocate_of exp start end k' l' d' w' hearing log_add
 allocated_alike exp start end hearing log_add a b c e = λ i. allocate_of exp start end (a i) (b i) (c i) (e i) hearing log_add

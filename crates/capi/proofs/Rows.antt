@@ -3,22 +3,31 @@
 use mathlib.Core.Path.{◌≡◌, refl, sym, ap, subst, ◌∙◌}
 use mathlib.Core.List.{List, [], ◌∷◌, map}
 use Prim.Native.Nat.{ℕ, zero, suc, ◌+◌, ◌<◌, ◌≤◌}
-use native.Mathlib.Nat.{add-zero, le_of_suc-le-suc}
+use native.Mathlib.Nat.{le_of_suc-le-suc}
+use Prim.Native.Nat.{zero-le}
+use Rattle.std.proofs.lemmas.List.{get_or-take, get_or-drop}
+use Rattle.std.proofs.Common.{length-drop, length-take}
+use Rattle.std.specs.Prelude.{Result, Ok, Err}
+use Rattle.refusal.specs.declared.Refusal.{Refusal}
+use Rattle.refusal.specs.Refusals.{Outcome, taken, refused, grounds, grounds_of, outcome_of, and_then, leaves, Ran, follow, then_run}
+use Rattle.syntax.specs.Reads.{Standing}
+use Rattle.blocks.specs.declared.AllocState.{AllocState}
+use Rattle.convention.specs.Replies.{told_of}
 use native.Mathlib.Numerals.{add-one}
 use native.Mathlib.Omega.{arith}
-use lib.ListN.{length, get_or, set, get_or-eq_default}
+use lib.ListN.{length, get_or, set, take, drop, get_or-eq_default}
 use lib.Seq.{set_out}
 use mir.Syntax.{w8}
 use mir.Val.{Val}
 use denote.Plain.{UInt}
 use denote.Array.{Array, each}
 use denote.Shadow.{shadow}
-use Rattle.alloc.specs.Table.{from, table}
-use Rattle.alloc.proofs.TableLaws.{get_d_table, length_table}
+use Rattle.alloc.specs.Table.{from, table, inside}
+use Rattle.alloc.proofs.TableLaws.{get_d_table, length_table, table_ext, inside_in}
 use Rattle.tables.specs.declared.Delta.{Delta}
 use Rattle.blocks.specs.Block.{no_delta, segments_at}
-use Rattle.blocks.specs.Side.{with_delta}
-use Rattle.capi.specs.States.{row_at, Whole, segments_from, state_from, row_of, rows_after}
+use Rattle.blocks.specs.Side.{with_delta, settled_of, reached}
+use Rattle.capi.specs.States.{row_at, Whole, segments_from, state_from, row_of, rows_after, Kept, kept, kept_of, gathered, gathered_of}
 
 from_suc : {X : Type 0} (i n : ℕ) (f : ℕ → X) → from (suc i) n f ≡ from i n (λ k. f (suc k))
 unfolding from
@@ -34,10 +43,18 @@ all_of d (x ∷ xs) = ap (λ (r : List _). x ∷ r) (from_suc 0 (length xs) (λ 
 pub table_all : {X : Type 0} (d : X) (l : List X) (n : ℕ) → length l ≡ n → table n (λ k. get_or l k d) ≡ l
 table_all d l n h = subst (λ (m : ℕ). table m (λ k. get_or l k d) ≡ l) h (all_of d l)
 
--- the bytes from a place on, the first of them apart
-pub bytes_from : (l : List ℕ) (at n : ℕ) → get_or l at 0 ∷ from 1 n (λ k. get_or l (at + k) 0) ≡ table (suc n) (λ k. get_or l (at + k) 0)
-unfolding from
-bytes_from l at n = ap (λ (k : ℕ). get_or l k 0 ∷ from 1 n (λ j. get_or l (at + j) 0)) (sym (add-zero at))
+-- the n bytes from a place on
+pub part_is : (l : List ℕ) (at n : ℕ) → at + n ≤ length l → take n (drop at l) ≡ table n (λ k. get_or l (at + k) 0)
+part_is l at n h =
+    sym (table_all 0 (take n (drop at l)) n (omega (arith, length-take n (drop at l), length-drop at l)))
+    ∙ table_ext n _ _ 0 (λ k j. get_or-take n (drop at l) k 0 j ∙ get_or-drop at l k 0)
+
+-- a table that starts at 1
+pub from_one : {X : Type 0} (n : ℕ) (z : X) (f : ℕ → X) → table n (inside 0 n z (λ k. f (k + 1))) ≡ from 1 n f
+from_one n z f =
+    table_ext n _ _ z (λ k h. inside_in 0 n z (λ j. f (j + 1)) k zero-le h)
+    ∙ table_ext n (λ k. f (k + 1)) (λ k. f (suc k)) z (λ k h. ap f (add-one k))
+    ∙ sym (from_suc 0 n f)
 
 -- rows that are held as arrays of n bytes have n bytes each
 pub each_long : (n : ℕ) (rows : List (List ℕ)) (us : List Val) → shadow (each (List ℕ) (Array (UInt w8) n).own_val rows us)
@@ -101,3 +118,32 @@ module _ (rows : List (List ℕ)) (h : Whole rows) (slot : ℕ) (d : Delta) wher
 
   pub put_out : 6 < slot → rows ≡ rows_after rows (with_delta (state_from rows) slot d)
   put_out k = sym (set_out rows (slot + 1) (row_of d) (omega (arith, h.0, k))) ∙ put_in
+
+-- a call's answer, which leaves a slot other segments, in the rows: what was answered is put, and a refused call changes nothing
+abbrev pub left_by : List (List ℕ) → ℕ → Outcome Delta → Ran AllocState Unit
+left_by rows slot o = leaves (state_from rows) (and_then o (λ d. taken (with_delta (state_from rows) slot d)))
+
+module _ (rows : List (List ℕ)) (slot : ℕ) {answer : Result Delta Refusal} where
+  pub kept_put : {d : Delta} {after : List (List ℕ)} → answer ≡ Ok d → after ≡ rows_after rows (with_delta (state_from rows) slot d)
+      → kept 0 0 after ≡ kept_of rows (left_by rows slot (outcome_of answer))
+  kept_put e h = ap (λ (l : List (List ℕ)). kept 0 0 l) h ∙ ap (λ (x : Result Delta Refusal). kept_of rows (left_by rows slot (outcome_of x))) (sym e)
+
+  pub kept_told : Whole rows → {r : Refusal} {k b : ℕ} → answer ≡ Err r → grounds k b ≡ grounds_of r
+      → kept k b rows ≡ kept_of rows (left_by rows slot (outcome_of answer))
+  kept_told h e g =
+      (λ i. kept (g i).number (g i).bit (sym (unchanged rows h) i))
+      ∙ ap (λ (x : Result Delta Refusal). kept_of rows (left_by rows slot (outcome_of x))) (sym e)
+
+-- the same of a reading
+pub gathered_put : (rows : List (List ℕ)) (slot : ℕ) (p : Ran Standing Delta) {k b : ℕ} {after : List (List ℕ)} → kept k b after ≡ kept_of rows (left_by rows slot p.outcome)
+    → gathered k b p.state.place.pos p.state.place.count p.state.log after
+    ≡ gathered_of rows (settled_of (state_from rows) (then_run p (λ d st. reached (with_delta (state_from rows) slot d) st)))
+gathered_put rows slot p e =
+    ap (λ (w : Kept). record { moved = record { told = w.told; pos = p.state.place.pos; count = p.state.place.count; log = p.state.log }; rows = w.rows }) e
+    ∙ go p.outcome
+  where
+    go : (o : Outcome Delta)
+        → record { moved = record { told = told_of (left_by rows slot o).outcome; pos = p.state.place.pos; count = p.state.place.count; log = p.state.log }; rows = rows_after rows (left_by rows slot o).state }
+        ≡ gathered_of rows (settled_of (state_from rows) (follow o p.state (λ d st. reached (with_delta (state_from rows) slot d) st)))
+    go (taken d) = refl
+    go (refused g) = refl

@@ -2,6 +2,7 @@
 -- segments of each slot.
 -- Assumes nothing.
 use Rattle.std.specs.Prelude.{ℕ, ◌+◌, ◌<◌, ◌≡◌, Bool, not, List, [], ◌∷◌, ◌++◌, map, eqb, length, get_or}
+use Rattle.std.specs.Bool.{then_some}
 use Rattle.refusal.specs.Refusals.{Ran}
 use Rattle.tables.specs.declared.Delta.{Delta}
 use Rattle.alloc.specs.Table.{from, table}
@@ -38,19 +39,13 @@ unfoldable pub state_from : List (List ℕ) → AllocState
 state_from rows =
     let codes = row_at rows 0 in
     record {
-      bai_sent = is_set codes 0;
-      sdcycod = byte_at codes 1;
-      fdcycod = byte_at codes 2;
-      sgaincod = byte_at codes 3;
-      dbpbcod = byte_at codes 4;
-      floorcod = byte_at codes 5;
-      csnroffst_sent = is_set codes 6;
-      csnroffst = byte_at codes 7;
+      bai =
+          then_some (is_set codes 0)
+          (record { sdcycod = byte_at codes 1; fdcycod = byte_at codes 2; sgaincod = byte_at codes 3; dbpbcod = byte_at codes 4; floorcod = byte_at codes 5 });
+      csnroffst = then_some (is_set codes 6) (byte_at codes 7);
       fsnroffst = bytes_at codes 8 7;
       fgaincod = bytes_at codes 15 7;
-      cplleak_sent = is_set codes 22;
-      cplfleak = byte_at codes 23;
-      cplsleak = byte_at codes 24;
+      cplleak = then_some (is_set codes 22) (record { cplfleak = byte_at codes 23; cplsleak = byte_at codes 24 });
       delta = from 1 7 (λ i. segments_from (row_at rows i));
     }
 

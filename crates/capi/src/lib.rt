@@ -1,6 +1,8 @@
 // The core for C and Rust, as far as it reads by a cursor or allocates: thin functions over the crates' public ones. `convention`
 // has what a caller is told; a function that never refuses has no room for a bit. include/zelamodurk.h says the same for each
 // function in C's terms.
+// Numbers for kinds and roles, flags with values beside them, arrays with a length and arguments that travel together are C's:
+// include/zelamodurk.h declares them so.
 #![tactic(auto)]
 
 pub mod block;
@@ -14,14 +16,14 @@ ghost use Rattle.syntax.specs.Elements.{role_of, is_drc, is_checksum, is_span};
 ghost use Rattle.syntax.specs.Reads.{standing, read_of, raw_of, span_of, close_of};
 ghost use Rattle.syntax.specs.Tiling.{tiling_of, element_at};
 ghost use Rattle.tables.specs.Pointers.{pointers_by};
-ghost use Rattle.alloc.specs.Answers.{ended_of, allocate_of};
+ghost use Rattle.alloc.specs.Answers.{allocate_of};
 ghost use Rattle.convention.specs.Replies.{reply, reply_of, told, told_of, running, running_of};
 ghost use Rattle.capi.specs.Standings.{place_of, bare_place_of, ask_of, stood, stood_of, moved, moved_of, advanced, advanced_of, fields, fields_at, no_fields};
 ghost use Rattle.capi.specs.Channels.{codes_from, leak_from, delta_from};
 
-use alloc::{Codes, Ended, Leak};
-use convention::{done, got, tell};
-use syntax::{Ask, Found, Place};
+use alloc::{Codes, Leak};
+use convention::{done, got};
+use syntax::{Ask, Element, Place, Role};
 use tables::{Bin, Delta};
 
 // syntax::is_drc, of the role of a word.
@@ -94,8 +96,7 @@ pub fn zela_read_element(
     let read = syntax::read_element(frame, log, place, ask);
     *pos = read.place.pos;
     *count = read.place.count;
-    let answer = read.answer;
-    got(answer, value, bit)
+    got(read.answer, value, bit)
 }
 
 // syntax::read_raw. It looks at no block and no count.
@@ -112,8 +113,7 @@ pub fn zela_read_raw(
     let place = place_of(*pos, limit, 0, 0);
     let read = syntax::read_raw(frame, place, width);
     *pos = read.place.pos;
-    let answer = read.answer;
-    got(answer, value, bit)
+    got(read.answer, value, bit)
 }
 
 // syntax::span.
@@ -135,8 +135,7 @@ pub fn zela_span(
     let spanned = syntax::span(frame, log, place, name, syntax::role_of(role), width);
     *pos = spanned.place.pos;
     *count = spanned.place.count;
-    let answer = spanned.answer;
-    done(answer, bit)
+    done(spanned.answer, bit)
 }
 
 // syntax::close_span.
@@ -157,8 +156,7 @@ pub fn zela_close_span(
     let place = place_of(pos, limit, block, *count);
     let closed = syntax::close_span(frame, log, place, name, syntax::role_of(role), start);
     *count = closed.place.count;
-    let answer = closed.answer;
-    done(answer, bit)
+    done(closed.answer, bit)
 }
 
 // syntax::check_tiling.
@@ -168,26 +166,16 @@ pub fn zela_check_tiling(log: &[u32], count: usize, total: usize, bit: &mut usiz
     done(syntax::check_tiling(log, count, total), bit)
 }
 
-// Where there is no element, each field is 0.
-fn no_fields(
-    name: &mut u32,
-    role: &mut u32,
-    block: &mut i8,
-    index: &mut i16,
-    pos: &mut u32,
-    width: &mut u32,
-    value: &mut u32,
-)
-    ensures { fields name.new role.new block.new index.new pos.new width.new value.new ≡ no_fields }
-{
-    *name = 0;
-    *role = 0;
-    *block = 0;
-    *index = 0;
-    *pos = 0;
-    *width = 0;
-    *value = 0;
-}
+// The element of which each field is 0, where there is none.
+const NO_ELEMENT: Element = Element {
+    name: 0,
+    role: Role::Plain,
+    block: 0,
+    index: 0,
+    pos: 0,
+    width: 0,
+    value: 0,
+};
 
 // syntax::element_at, field by field.
 pub fn zela_element_at(
@@ -205,42 +193,20 @@ pub fn zela_element_at(
 ) -> u8
     ensures { reply result (fields name.new role.new block.new index.new pos.new width.new value.new) bit.new ≡ reply_of no_fields (fields_at (element_at log.now count k)) }
 {
-    match syntax::element_at(log, count, k) {
-        Found::Is(e) => {
-            let held = e.role;
-            let in_block = e.block;
-            let at_index = e.index;
-            *name = e.name;
-            *role = syntax::role_word(held);
-            *block = in_block;
-            *index = at_index;
-            *pos = e.pos;
-            *width = e.width;
-            *value = e.value;
-            *bit = 0;
-            0
-        }
-        Found::Refused(r) => {
-            no_fields(name, role, block, index, pos, width, value);
-            tell(r, bit)
-        }
-    }
-}
-
-// What an allocation answers besides its pointers.
-fn ended(answer: Ended, bit: &mut usize) -> u8
-    ensures { told result bit.new ≡ told_of (ended_of answer) }
-{
-    match answer {
-        Ended::Done => {
-            *bit = 0;
-            0
-        }
-        Ended::Refused(r) => tell(r, bit),
-    }
+    let found = syntax::element_at(log, count, k);
+    let e = found.unwrap_or(NO_ELEMENT);
+    *name = e.name;
+    *role = syntax::role_word(e.role);
+    *block = e.block;
+    *index = e.index;
+    *pos = e.pos;
+    *width = e.width;
+    *value = e.value;
+    done(found.and(Ok(())), bit)
 }
 
 // The side information from a caller's nine bytes.
+// By place, as C lends nine bytes; `replay` has its own from a row of numbers.
 fn codes_from(codes: &[u8; 9]) -> Codes
     ensures { result ≡ codes_from codes.now }
 {
@@ -257,14 +223,11 @@ fn codes_from(codes: &[u8; 9]) -> Codes
     }
 }
 
-// The leaks, where the caller has any.
-fn leak_from(has_leak: bool, cplfleak: u8, cplsleak: u8) -> Leak
+// The leaks, where the caller has any: C hands over a flag and two codes beside it.
+fn leak_from(has_leak: bool, cplfleak: u8, cplsleak: u8) -> Option<Leak>
     ensures { result ≡ leak_from has_leak cplfleak cplsleak }
 {
-    if has_leak {
-        return Leak::Codes(cplfleak, cplsleak);
-    }
-    Leak::None
+    has_leak.then_some(Leak { cplfleak, cplsleak })
 }
 
 // The delta segments from a caller's arrays.
@@ -315,5 +278,5 @@ pub fn zela_allocate(
         log_add,
         bap,
     );
-    ended(answer, bit)
+    done(answer, bit)
 }

@@ -1,14 +1,12 @@
 // The mantissa walks of `walks` and `aht`. A walk looks at no block and no count, and logs nothing.
 ghost use Rattle.std.specs.Prelude.{◌≡◌};
 ghost use Rattle.walks.specs.Walk.{walk_of};
-ghost use Rattle.aht.specs.Aht.{ended_of, aht_of};
-ghost use Rattle.convention.specs.Replies.{reply, reply_of};
+ghost use Rattle.aht.specs.Aht.{aht_of};
 ghost use Rattle.capi.specs.Standings.{bare_place_of, advanced, advanced_of};
 ghost use Rattle.capi.specs.Walks.{groups_of, carried, carried_of};
 
 use crate::place_of;
-use aht::Counted;
-use convention::{done, tell};
+use convention::{done, reply};
 use tables::Bin;
 use walks::Groups;
 
@@ -41,25 +39,7 @@ pub fn zela_conventional(
     *g1 = walked.groups.g1;
     *g2 = walked.groups.g2;
     *g4 = walked.groups.g4;
-    let answer = walked.answer;
-    done(answer, bit)
-}
-
-// What an AHT walk answers.
-fn counted(answer: Counted, tags: &mut usize, bit: &mut usize) -> u8
-    ensures { reply result tags.new bit.new ≡ reply_of 0 (ended_of answer) }
-{
-    match answer {
-        Counted::Tags(n) => {
-            *tags = n;
-            *bit = 0;
-            0
-        }
-        Counted::Refused(r) => {
-            *tags = 0;
-            tell(r, bit)
-        }
-    }
+    done(walked.answer, bit)
 }
 
 // aht::aht.
@@ -78,6 +58,5 @@ pub fn zela_aht(
     let place = place_of(*pos, limit, 0, 0);
     let walked = aht::aht(frame, place, hebap, Bin(start), Bin(end));
     *pos = walked.place.pos;
-    let answer = walked.answer;
-    counted(answer, tags, bit)
+    reply(walked.answer, 0, tags, bit)
 }

@@ -32,11 +32,10 @@ pub fn zela_read_exponents(
     let read = exponents::read_exponents(frame, log, place, slot, strategy, Bin(start), Bin(end));
     *pos = read.place.pos;
     *count = read.place.count;
-    let set = read.set;
-    *exp_start = set.start;
-    *exp_end = set.end;
-    let exp = set.exp;
+    *exp_start = read.set.start;
+    *exp_end = read.set.end;
+    // By way of a local: no proof covers the store of a field that is an array.
+    let exp = read.set.exp;
     *exponents = exp;
-    let answer = read.answer;
-    done(answer, bit)
+    done(read.answer, bit)
 }

@@ -1,5 +1,6 @@
 // The core for C and Rust, as far as it needs no cursor: bits, CRC-16, and a frame's header and checksums. Thin functions over
 // the crates' public ones; `convention` has what a caller is told.
+// A flag for the codec, a number for a refusal and room beside room for what is told are C's: include/zelamodurk.h declares them so.
 #![tactic(auto)]
 
 ghost use Rattle.std.specs.Prelude.{◌≡◌, false, replicate};
@@ -11,8 +12,8 @@ ghost use Rattle.convention.specs.Replies.{reply, reply_of, running, running_of}
 ghost use Rattle.convention.specs.Codecs.{codec_from};
 ghost use Rattle.capi_bytes.specs.Frames.{opening, opening_of, checks, checks_of};
 
-use convention::{codec_from, done, got, is_eac3, judged, tell};
-use probe::Probed;
+use convention::{codec_from, done, got, is_eac3, judged, reply};
+use probe::{Codec, Header};
 use repair::Status;
 
 // bits::get.
@@ -71,20 +72,15 @@ pub fn zela_crc16_zeros(init: u16, n: usize, value: &mut u16) -> u8
 pub fn zela_probe(frame: &[u8], eac3: &mut bool, bytes: &mut usize, bit: &mut usize) -> u8
     ensures { reply result (opening eac3.new bytes.new) bit.new ≡ reply_of (opening false 0) (opening_of (probe_of frame.now)) }
 {
-    match probe::probe(frame) {
-        Probed::Is(h) => {
-            let codec = h.codec;
-            *eac3 = is_eac3(codec);
-            *bytes = h.bytes;
-            *bit = 0;
-            0
-        }
-        Probed::Refused(r) => {
-            *eac3 = false;
-            *bytes = 0;
-            tell(r, bit)
-        }
-    }
+    // What is told of a frame that is refused.
+    let mut header = Header {
+        codec: Codec::Ac3,
+        bytes: 0,
+    };
+    let code = reply(probe::probe(frame), header, &mut header, bit);
+    *eac3 = is_eac3(header.codec);
+    *bytes = header.bytes;
+    code
 }
 
 // repair::crc_status. E-AC-3 has no crc1.
@@ -97,25 +93,19 @@ pub fn zela_crc_status(
 ) -> u8
     ensures { reply result (checks crc1.new crc2.new) bit.new ≡ reply_of (checks false false) (checks_of (crc_status_of (codec_from eac3) frame.now)) }
 {
-    match repair::crc_status(codec_from(eac3), frame) {
-        Status::Both(first, second) => {
-            *crc1 = first;
-            *crc2 = second;
-            *bit = 0;
-            0
-        }
-        Status::Second(second) => {
-            *crc1 = false;
-            *crc2 = second;
-            *bit = 0;
-            0
-        }
-        Status::Refused(r) => {
-            *crc1 = false;
-            *crc2 = false;
-            tell(r, bit)
-        }
-    }
+    // What is told of a frame that is refused.
+    let mut status = Status::Both(false, false);
+    let code = reply(
+        repair::crc_status(codec_from(eac3), frame),
+        status,
+        &mut status,
+        bit,
+    );
+    (*crc1, *crc2) = match status {
+        Status::Both(first, second) => (first, second),
+        Status::Second(second) => (false, second),
+    };
+    code
 }
 
 // repair::repair.

@@ -1,5 +1,6 @@
 // What C and Rust link of the core, as far as it needs no cursor: each function is that of `capi_bytes`, with the same clauses, under the
 // name and with the arguments that include/zelamodurk.h declares.
+// C links these: each is the function of `capi_bytes` once more, for its name and its arguments.
 #![tactic(auto)]
 
 ghost use Rattle.std.specs.Prelude.{◌≡◌, false, replicate};

@@ -1,5 +1,6 @@
 // What C and Rust link of the core, as far as it reads by a cursor or allocates: each function is that of `capi`, with the same clauses,
-// under the name and with the arguments that include/zelamodurk.h declares.
+// under the name and with the arguments that include/zelamodurk.h declares. C links these; numbers for kinds, flags with values beside them,
+// arrays with a length and arguments that travel together are its own.
 #![tactic(auto)]
 
 pub mod block;

@@ -10,7 +10,8 @@ use borrow.Author.Tests.{eqb-true}
 use lib.ListN.{replicate}
 use lib.Bits.{bit_xor, xor_zero_r, xor_comm, xor_shifted}
 use Rattle.crc.specs.Crc.{poly, shift, byte_in, crc_of, idle}
-use Rattle.crc.proofs.Xor.{xor_assoc, xor_shl}
+use Rattle.std.specs.Int.Bits.{xor_assoc}
+use Rattle.crc.proofs.Xor.{xor_shl}
 use Rattle.crc.proofs.Below.{below}
 use Rattle.crc.proofs.Linear.{idle_linear, idle_add, byte_idle, eight}
 

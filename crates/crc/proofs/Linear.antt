@@ -10,7 +10,8 @@ use lib.Pow.{pow_pos}
 use lib.ListN.{length}
 use lib.Bits.{bit_xor, xor_lt, xor_shr, xor_mod, xor_zero_r}
 use Rattle.crc.specs.Crc.{poly, shift, byte_in, crc_of, idle}
-use Rattle.crc.proofs.Xor.{bit, bit_xor_lt, xor_assoc, xor_pairs, xor_shl}
+use Rattle.std.specs.Int.Bits.{xor_assoc}
+use Rattle.crc.proofs.Xor.{bit, bit_xor_lt, xor_pairs, xor_shl}
 
 -- the generator, added or not
 gen_linear : (p q : ℕ) → p < 2 → q < 2 → bit_xor p q * poly ≡ bit_xor (p * poly) (q * poly)

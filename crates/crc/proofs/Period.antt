@@ -8,7 +8,8 @@ use lib.Arith.{bin_ind}
 use lib.ListN.{replicate}
 use lib.Bits.{bit_xor, xor_shifted}
 use Rattle.crc.specs.Crc.{shift, crc_of, idle, unshift}
-use Rattle.crc.proofs.Xor.{bit, bit_lt, xor_pairs, xor_assoc, xor_cancel_left}
+use Rattle.std.specs.Int.Bits.{xor_assoc}
+use Rattle.crc.proofs.Xor.{bit, bit_lt, xor_pairs, xor_cancel_left}
 use Rattle.crc.proofs.Linear.{shift_linear, idle_linear, idle_add, idle_shift, idle_lt}
 use Rattle.crc.proofs.Bytes.{shift_up, crc_zeros}
 use Rattle.crc.proofs.Back.{unshift_shift}

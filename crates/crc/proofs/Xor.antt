@@ -1,11 +1,11 @@
--- The laws of bit_xor that `lib.Bits` does not state: it is associative, two pairs can be paired anew, and it passes through a shift up.
+-- The laws of bit_xor that std does not state: two pairs can be paired anew, what is added twice is gone, and it passes through a shift up.
 -- Assumes nothing.
-use mathlib.Core.Path.{◌≡◌, refl, sym, ap, ap₂, ◌∙◌}
-use Prim.Native.Nat.{ℕ, zero, suc, ◌+◌, ◌*◌, ◌/◌, ◌%◌, ◌^◌, ◌<◌}
+use mathlib.Core.Path.{◌≡◌, sym, ap, ap₂, ◌∙◌}
+use Prim.Native.Nat.{ℕ, zero, suc, ◌*◌, ◌%◌, ◌^◌, ◌<◌}
 use native.Mathlib.Nat.{le_of_suc-le-suc, not-suc-le-zero, mod-lt, zero-lt-suc, add-zero}
-use lib.Arith.{bin_ind}
 use lib.Pow.{pow_pos}
-use lib.Bits.{bit_xor, differ, xor_step, xor_shr, xor_mod, xor_block, xor_comm, xor_self, xor_zero_r, xor_lt}
+use Rattle.std.specs.Int.Bits.{xor_assoc}
+use lib.Bits.{bit_xor, xor_block, xor_comm, xor_self, xor_zero_r, xor_lt}
 
 -- what holds of 0 and of 1 holds of each bit
 pub bit : (P : ℕ → Type 0) → P 0 → P 1 → (n : ℕ) → n < 2 → P n
@@ -20,34 +20,6 @@ bit_lt n = mod-lt n (zero-lt-suc 1)
 -- and so is the sum of two
 pub bit_xor_lt : (p q : ℕ) → bit_xor (p % 2) (q % 2) < 2
 bit_xor_lt p q = xor_lt 1 (p % 2) (q % 2) (bit_lt p) (bit_lt q)
-
-differ_assoc : (x y z : ℕ) → x < 2 → y < 2 → z < 2 → differ (differ x y) z ≡ differ x (differ y z)
-differ_assoc x y z hx hy hz =
-    bit (λ (n : ℕ). differ (differ n y) z ≡ differ n (differ y z)) refl
-    (bit (λ (n : ℕ). differ (differ 1 n) z ≡ differ 1 (differ n z)) refl
-    (bit (λ (n : ℕ). differ (differ 1 1) n ≡ differ 1 (differ 1 n)) refl refl z hz) y hy) x hx
-
-bits_differ : (x y : ℕ) → x < 2 → y < 2 → bit_xor x y ≡ differ x y
-bits_differ x y hx hy =
-    bit (λ (n : ℕ). bit_xor n y ≡ differ n y) refl
-    (bit (λ (n : ℕ). bit_xor 1 n ≡ differ 1 n) refl refl y hy) x hx
-
-half : (a b : ℕ) → bit_xor a b / 2 ≡ bit_xor (a / 2) (b / 2)
-half a b = xor_shr a b 1
-
-odd : (a b : ℕ) → bit_xor a b % 2 ≡ differ (a % 2) (b % 2)
-odd a b = xor_mod a b 1 ∙ bits_differ (a % 2) (b % 2) (bit_lt a) (bit_lt b)
-
--- sums can be grouped anew
-pub xor_assoc : (a b c : ℕ) → bit_xor (bit_xor a b) c ≡ bit_xor a (bit_xor b c)
-xor_assoc a =
-    bin_ind (λ (n : ℕ). (b c : ℕ) → bit_xor (bit_xor n b) c ≡ bit_xor n (bit_xor b c)) (λ b c. refl)
-    (λ n ih b c.
-    xor_step (bit_xor n b) c
-    ∙ ap₂ (λ (x y : ℕ). bit_xor x (c / 2) * 2 + differ y (c % 2)) (half n b) (odd n b)
-    ∙ ap₂ (λ (x y : ℕ). x * 2 + y) (ih (b / 2) (c / 2)) (differ_assoc (n % 2) (b % 2) (c % 2) (bit_lt n) (bit_lt b) (bit_lt c))
-    ∙ ap₂ (λ (x y : ℕ). bit_xor (n / 2) x * 2 + differ (n % 2) y) (sym (half b c)) (sym (odd b c))
-    ∙ sym (xor_step n (bit_xor b c))) a
 
 -- two pairs, paired anew
 pub xor_pairs : (a b c d : ℕ) → bit_xor (bit_xor a b) (bit_xor c d) ≡ bit_xor (bit_xor a c) (bit_xor b d)

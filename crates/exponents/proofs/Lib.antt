@@ -1,5 +1,6 @@
 pub mod Lists
 pub mod Turns
+pub mod Held
 pub mod Ways
 pub mod Scale
 pub mod Reached

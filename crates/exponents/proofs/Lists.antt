@@ -2,7 +2,7 @@
 -- Assumes nothing.
 use Prim.Native.Nat.{ℕ, suc, ◌+◌, ◌-◌, ◌*◌, ◌≤◌}
 use mathlib.Core.Path.{◌≡◌, refl, sym, ◌∙◌, ap}
-use mathlib.Core.Bool.{Bool, true, false, ◌||◌}
+use mathlib.Core.Bool.{false}
 use mathlib.Core.List.{List, [], ◌∷◌, ◌++◌, append_assoc, append-nil}
 use native.Mathlib.Omega.{arith}
 use lib.Dec.{ltb}
@@ -40,17 +40,6 @@ three_runs l at g a b c =
     ∙ ap (λ (k : List ℕ). sets k (at + length (x ++ y)) z) (sym (sets_append x y l at))
     ∙ sym (sets_append (x ++ y) z l at)
     ∙ ap (λ (k : List ℕ). sets l at k) (append_assoc x y z ∙ ap (λ (k : List ℕ). x ++ (y ++ k)) (sym (append-nil z)))
-
--- the three results of a group, laid one after another
-pub three_laid : (l l₁ l₂ l₃ : List ℕ) (at g e a b c : ℕ) → l₁ ≡ sets l at (replicate g (e + a - 2))
-    → l₂ ≡ sets l₁ (at + g) (replicate g (e + a - 2 + b - 2)) → l₃ ≡ sets l₂ (at + 2 * g) (replicate g (e + a - 2 + b - 2 + c - 2))
-    → l₃ ≡ sets l at (spread g (running e (a ∷ b ∷ c ∷ [])))
-unfolding running
-three_laid l l₁ l₂ l₃ at g e a b c p q r =
-    r
-    ∙ ap (λ (x : List ℕ). sets x (at + 2 * g) (replicate g (e + a - 2 + b - 2 + c - 2)))
-    (q ∙ ap (λ (x : List ℕ). sets x (at + g) (replicate g (e + a - 2 + b - 2))) p)
-    ∙ three_runs l at g (e + a - 2) (e + a - 2 + b - 2) (e + a - 2 + b - 2 + c - 2)
 
 -- three results stand in 3 g bins
 pub three_length : (g e a b c : ℕ) → length (spread g (running e (a ∷ b ∷ c ∷ []))) ≡ 3 * g
@@ -109,8 +98,3 @@ three_on_scale e a b c h =
     let y = on_scale (e + a - 2 + b) t.0 in
     let z = on_scale (e + a - 2 + b - 2 + c) u.0 in
     ((x.0, omega (arith, x.0, x.1)), (y.0, omega (arith, y.0, y.1)), (z.0, omega (arith, z.0, z.1)))
-
--- a last test alone
-pub or_none : (t : Bool) → t ≡ (t || false)
-or_none true = refl
-or_none false = refl

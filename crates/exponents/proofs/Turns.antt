@@ -1,10 +1,11 @@
 -- A group at a time the code lays what all groups at once give (`groups_on_lem`), so what it comes to is what the definition says.
 -- Assumes nothing.
-use Prim.Native.Nat.{ℕ, zero, suc, ◌+◌, ◌*◌}
+use Prim.Native.Nat.{ℕ, zero, suc, ◌+◌, ◌-◌, ◌*◌, ◌≤◌}
 use mathlib.Core.Path.{◌≡◌, refl, sym, ◌∙◌, ap, subst}
 use mathlib.Core.Bool.{Bool, true, false}
 use mathlib.Core.List.{List, [], ◌∷◌, ◌++◌, append_assoc, append-nil}
 use native.Mathlib.Nat.{add_assoc}
+use native.Mathlib.Numerals.{add-one}
 use native.Mathlib.Omega.{arith}
 use lib.Dec.{ltb}
 use lib.ListN.{length, length-append}
@@ -17,7 +18,7 @@ use Rattle.exponents.specs.declared.ExpSet.{ExpSet}
 use Rattle.tables.specs.Bands.{zeros}
 use Rattle.exponents.specs.Set.{size_of, group_count, digits, all_digits, running, outside, spread, first_of, leading, outputs, base_of, bins_of}
 use Rattle.exponents.specs.Reads.{unfit, abs_ask, group_ask, group_of, groups_of, set_of, left_of, read_exponents_of}
-use Rattle.exponents.specs.Turns.{Laid, laid, last_of, begun_of, onward, unpack_on, group_on, groups_on, first_on, finish_on}
+use Rattle.exponents.specs.Turns.{Laid, laid, last_of, begun_of, onward, unpack_on, group_on, groups_on, first_on, closed_on, finish_on}
 use Rattle.exponents.proofs.Lists.{sets_append, three_length, digits_more, running_append, last_append, spread_append, outside_append}
 
 -- groups that were taken have no result outside
@@ -142,17 +143,35 @@ module _ (slot g start abs : ℕ) where
         ap (group_on frame ask g) (groups_on_lem n st) ∙ group_on_lem (groups_of frame ask (first_of slot abs) n st) (groups_inside frame ask (first_of slot abs) n st)
 
 -- what is refused stays
-groups_stay : (frame : List ℕ) (ask : Ask) (g n : ℕ) (st : Standing) (x : Grounds) → groups_on frame ask g n (ends st (refused x)) ≡ ends st (refused x)
+pub groups_stay : (frame : List ℕ) (ask : Ask) (g n : ℕ) (st : Standing) (x : Grounds) → groups_on frame ask g n (ends st (refused x)) ≡ ends st (refused x)
 unfolding groups_on group_on
 groups_stay frame ask g zero st x = refl
 groups_stay frame ask g (suc n) st x = ap (group_on frame ask g) (groups_stay frame ask g n st x)
 
+-- what is refused early stays to the last
+pub groups_stop : (frame : List ℕ) (ask : Ask) (g i n : ℕ) (r : Ran Standing Laid) {st : Standing} {x : Grounds}
+    → groups_on frame ask g i r ≡ ends st (refused x) → i ≤ n → groups_on frame ask g i r ≡ groups_on frame ask g n r
+unfolding groups_on group_on
+groups_stop frame ask g i n r {st} {x} e h =
+    e ∙ sym (along (n - i)) ∙ ap (λ (k : ℕ). groups_on frame ask g k r) (let p : n - i + i ≡ n = omega arith in p)
+  where
+    along : (k : ℕ) → groups_on frame ask g (k + i) r ≡ ends st (refused x)
+    along zero = ap (λ (j : ℕ). groups_on frame ask g j r) (let p : 0 + i ≡ i = omega arith in p) ∙ e
+    along (suc k) =
+        ap (λ (j : ℕ). groups_on frame ask g j r) (let p : suc k + i ≡ suc (k + i) = omega arith in p) ∙ ap (group_on frame ask g) (along k)
+
+-- one turn of the loop over the groups
+pub groups_again : (frame : List ℕ) (ask : Ask) (g i : ℕ) (r : Ran Standing Laid)
+    → group_on frame ask g (groups_on frame ask g i r) ≡ groups_on frame ask g (i + 1) r
+unfolding groups_on
+groups_again frame ask g i r = rw add-one refl
+
 -- the code's way from the absolute exponent to the set comes to what the definition says
 module _ (frame : List ℕ) (st : Standing) (slot strategy start end : ℕ) (fit : unfit slot strategy start end ≡ false) where
-  pub way_is : finish_on start end (groups_on frame (group_ask slot) (size_of strategy) (group_count slot (size_of strategy) start end) (first_on frame slot start zeros st))
-      ≡ read_exponents_of frame st slot strategy start end
-  unfolding set_of first_on finish_on
-  way_is = rw fit (go (read_of frame st (abs_ask slot)).outcome (read_of frame st (abs_ask slot)).state)
+  pub set_is : closed_on start end (groups_on frame (group_ask slot) (size_of strategy) (group_count slot (size_of strategy) start end) (first_on frame slot start zeros st))
+      ≡ set_of frame st slot strategy start end
+  unfolding set_of first_on closed_on
+  set_is = rw fit (go (read_of frame st (abs_ask slot)).outcome (read_of frame st (abs_ask slot)).state)
     where
       g : ℕ
       g = size_of strategy
@@ -166,15 +185,20 @@ module _ (frame : List ℕ) (st : Standing) (slot strategy start end : ℕ) (fit
           (refuse_if (ltb (base_of slot start + length (outputs slot g abs vs)) end) 9 st₂.place.pos
           (taken (record { exp = bins_of (base_of slot start) (outputs slot g abs vs); start = start; end = end })))
 
-      last : (abs : ℕ) (o : Outcome (List ℕ)) (s : Standing) → finish_on start end (held slot g start abs (ends s o)) ≡ left_of (follow o s (short abs))
+      last : (abs : ℕ) (o : Outcome (List ℕ)) (s : Standing) → closed_on start end (held slot g start abs (ends s o)) ≡ follow o s (short abs)
       last abs (taken vs) s = refl
       last abs (refused x) s = refl
 
       go : (o : Outcome ℕ) (s : Standing)
-          → finish_on start end (groups_on frame (group_ask slot) g n (follow o s (λ abs st₁. ends st₁ (taken (begun_of slot start zeros abs)))))
-          ≡ left_of (follow o s (λ abs st₁. then_run (groups_of frame (group_ask slot) (first_of slot abs) n st₁) (short abs)))
+          → closed_on start end (groups_on frame (group_ask slot) g n (follow o s (λ abs st₁. ends st₁ (taken (begun_of slot start zeros abs)))))
+          ≡ follow o s (λ abs st₁. then_run (groups_of frame (group_ask slot) (first_of slot abs) n st₁) (short abs))
       go (taken abs) s =
-          ap (λ (l : Laid). finish_on start end (groups_on frame (group_ask slot) g n (ends s (taken l)))) (begun_is slot g start abs)
-          ∙ ap (finish_on start end) (groups_on_lem slot g start abs frame (group_ask slot) n s)
+          ap (λ (l : Laid). closed_on start end (groups_on frame (group_ask slot) g n (ends s (taken l)))) (begun_is slot g start abs)
+          ∙ ap (closed_on start end) (groups_on_lem slot g start abs frame (group_ask slot) n s)
           ∙ last abs (groups_of frame (group_ask slot) (first_of slot abs) n s).outcome (groups_of frame (group_ask slot) (first_of slot abs) n s).state
-      go (refused x) s = ap (finish_on start end) (groups_stay frame (group_ask slot) g n s x)
+      go (refused x) s = ap (closed_on start end) (groups_stay frame (group_ask slot) g n s x)
+
+  pub way_is : finish_on start end (groups_on frame (group_ask slot) (size_of strategy) (group_count slot (size_of strategy) start end) (first_on frame slot start zeros st))
+      ≡ read_exponents_of frame st slot strategy start end
+  unfolding finish_on
+  way_is = ap left_of set_is

@@ -13,8 +13,9 @@ use contract.Monad.{Fun}
 use borrow.Fn.Kinds.{Dens, ended_of}
 use denote.Triple.Clauses.{AtExit}
 use Rattle.refusal.specs.Refusals.{Ran}
-use Rattle.bits.specs.declared.Put.{Put}
-use Rattle.bits.proofs.Unique.{done_back, done_back_lem}
+use Rattle.std.specs.Prelude.{Result}
+use Rattle.refusal.specs.declared.Refusal.{Refusal}
+use Rattle.refusal.proofs.Unique.{answer_of, answer_back}
 use Rattle.syntax.specs.Cursors.{moved}
 use Rattle.syntax.proofs.Agree.{Agree, agree}
 use Rattle.exponents.specs.declared.Exponents.{Exponents}
@@ -25,10 +26,10 @@ use Rattle.exponents.specs.contracts.read_exponents_at as read-exponents-at
 
 -- the answer's meaning leads back to it
 abbrev pub exponents_back : Ran Left Unit → Exponents
-exponents_back r = record { answer = done_back r.outcome; place = r.state.standing.place; set = r.state.set }
+exponents_back r = record { answer = answer_of r.outcome; place = r.state.standing.place; set = r.state.set }
 
 pub exponents_back_lem : (x : Exponents) (log : List ℕ) → exponents_back (exponents_of x log) ≡ x
-exponents_back_lem x log = ap (λ (a : Put). record { answer = a; place = x.place; set = x.set }) (done_back_lem x.answer)
+exponents_back_lem x log = ap (λ (a : Result Unit Refusal). record { answer = a; place = x.place; set = x.set }) (answer_back x.answer)
 
 exponents_same : (x y : Exponents) (l m : List ℕ) → exponents_of x l ≡ exponents_of y m → x ≡ y
 exponents_same x y l m e = sym (exponents_back_lem x l) ∙ ap exponents_back e ∙ exponents_back_lem y m

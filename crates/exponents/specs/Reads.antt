@@ -2,8 +2,7 @@
 -- numbers and its order of tests.
 -- Assumes nothing.
 use Rattle.std.specs.Prelude.{ℕ, zero, suc, ◌+◌, Bool, ◌||◌, List, [], ◌∷◌, ◌++◌, length, pos, leb, ltb}
-use Rattle.refusal.specs.Refusals.{taken, refuse_if, Ran, ends, leaves, then_run}
-use Rattle.bits.specs.Answers.{done_of}
+use Rattle.refusal.specs.Refusals.{outcome_of, taken, refuse_if, Ran, ends, leaves, then_run}
 use Rattle.syntax.specs.declared.Role.TheVariants.{Plain}
 use Rattle.syntax.specs.declared.Ask.{Ask}
 use Rattle.syntax.specs.Names as names
@@ -24,7 +23,7 @@ left st set = record { standing = st; set = set }
 
 -- what an answer means, with the log after it
 abbrev pub exponents_of : Exponents → List ℕ → Ran Left Unit
-exponents_of r log = record { outcome = done_of r.answer; state = left (standing r.place log) r.set }
+exponents_of r log = record { outcome = outcome_of r.answer; state = left (standing r.place log) r.set }
 
 -- "6 for slot, strategy, then range (start < end ≤ 256 required)"
 abbrev pub unfit : ℕ → ℕ → ℕ → ℕ → Bool

@@ -1,13 +1,13 @@
--- The tests of a tail: the first that holds tells its refusal, and what is known where none holds.
+-- The tests of a tail: what is known where none holds.
 -- Assumes nothing.
 use Prim.Native.Nat.{ℕ, ◌+◌, ◌*◌, ◌≤◌}
 use mathlib.Core.Path.{◌≡◌}
 use mathlib.Core.List.{List}
-use mathlib.Core.Bool.{true, false}
+use mathlib.Core.Bool.{false}
 use lib.ListN.{length}
 use lib.Dec.{ltb}
 use borrow.Author.Tests.{ltb-false}
-use Rattle.refusal.specs.Refusals.{Outcome, taken, refused, grounds}
+use Rattle.refusal.specs.Refusals.{taken}
 use Rattle.refusal.proofs.Laws.{past_test}
 use Rattle.syntax.specs.declared.Place.{Place}
 use Rattle.syntax.specs.Reads.{room, unsound}
@@ -29,25 +29,6 @@ fit_says len words p total e =
     let s = sound_limit len p b.0 in
     let w = ltb-false p.limit total a.0 in
     record { within = w; short = s.0; sound = s.1; roomy = ltb-false (room words) p.count b.1 }
-
-module _ (frame : List ℕ) (words : ℕ) (p : Place) (total : ℕ) {o : Outcome Unit} where
-  pub fit-6 : unfit (length frame) words p total ≡ true → o ≡ refused (grounds 6 p.pos) → o ≡ fit_of frame words p total
-  unfolding fit_of
-  fit-6 u g = rw u g
-
-  module _ (u : unfit (length frame) words p total ≡ false) where
-    pub fit-16 : ltb total (p.pos + last_bits) ≡ true → o ≡ refused (grounds 16 p.pos) → o ≡ fit_of frame words p total
-    unfolding fit_of
-    fit-16 s g = rw (u, s) g
-
-    module _ (s : ltb total (p.pos + last_bits) ≡ false) {n : ℕ} (b : n ≡ behind (has_aux frame total)) where
-      pub fit-17 : ltb total (p.pos + n) ≡ true → o ≡ refused (grounds 17 p.pos) → o ≡ fit_of frame words p total
-      unfolding fit_of
-      fit-17 t g = rw (u, s, ← b, t) g
-
-      pub fit_done : ltb total (p.pos + n) ≡ false → o ≡ taken tt → o ≡ fit_of frame words p total
-      unfolding fit_of
-      fit_done t g = rw (u, s, ← b, t) g
 
 -- what is known of a tail that there is room for
 pub record Roomed (frame : List ℕ) (words : ℕ) (p : Place) (total : ℕ) : Type 0 where

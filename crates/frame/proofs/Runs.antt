@@ -1,166 +1,126 @@
--- The sticky reader's steps are the definition's: what each step comes to, and all of them together.
+-- The steps of a tail at a cursor are the definition's: what each comes to, and all of them together.
 -- Assumes nothing.
-use Prim.Native.Nat.{ℕ, ◌-◌, ◌≤◌, ◌<◌}
-use mathlib.Core.Path.{◌≡◌, refl, sym, ap, ◌∙◌}
+use Prim.Native.Nat.{ℕ, ◌-◌}
+use mathlib.Core.Path.{◌≡◌, refl, ap, ◌∙◌}
 use mathlib.Core.List.{List}
-use mathlib.Core.Bool.{Bool, true, false}
+use mathlib.Core.Bool.{Bool}
 use lib.ListN.{length}
-use lib.Dec.{ltb}
-use native.Mathlib.Omega.{arith}
-use borrow.Author.Tests.{lt-ltb, le-ltb}
-use Rattle.refusal.specs.declared.Refusal.{Refusal}
-use Rattle.refusal.specs.Refusals.{Grounds, Outcome, taken, refused, grounds, grounds_of, number_of, told, refuse_if, and_then, placed, Ran, ends, follow, then_run}
-use Rattle.refusal.proofs.Laws.{never, then_then}
-use Rattle.bits.specs.declared.Put.{Put}
-use Rattle.bits.specs.declared.Put.TheVariants as put
-use Rattle.bits.specs.Answers.{done_of}
+use Rattle.refusal.specs.Refusals.{Grounds, Outcome, taken, refused, and_then, placed, Ran, ends, then_run}
 use Rattle.syntax.specs.declared.Place.{Place}
-use Rattle.syntax.specs.declared.Reader.{Reader}
-use Rattle.syntax.specs.declared.Moved.{Moved}
-use Rattle.syntax.specs.declared.Role.TheVariants.{AuxBits, AuxDataL, AuxDataE, CrcRsv, Crc2}
+use Rattle.syntax.specs.declared.Ask.{Ask}
+use Rattle.syntax.specs.declared.cursor.Cursor.{Cursor}
+use Rattle.syntax.specs.declared.Role.TheVariants.{AuxBits, AuxDataE, CrcRsv, Crc2}
 use Rattle.syntax.specs.Names as names
-use Rattle.syntax.specs.Reads.{Standing, standing, moved_of, seen_of, shown, reader_of, read_of, span_of, next_of}
+use Rattle.syntax.specs.Reads.{Standing, standing, read_of, span_of}
 use Rattle.syntax.specs.Tiling.{tiling_of}
-use Rattle.syntax.proofs.Ends.{next_is, reader_is}
+use Rattle.syntax.specs.Cursors.{Held, held_of, over}
+use Rattle.exponents.proofs.Held.{held_stops, held_on}
 use Rattle.probe.specs.declared.Codec.{Codec}
 use Rattle.frame.specs.declared.Stretch.{Stretch}
-use Rattle.frame.specs.Tail.{auxdatal_bits, has_aux, behind, fit_of, outside, user_bits, tail_ask, reserved_name, length_of, last_of, tiles_of, elements_of, tail_of}
-
--- a reader whose answer is refused
-seen_refused : (a : Put) (v : ℕ) {g : Grounds} → done_of a ≡ refused g → seen_of a v ≡ refused g
-seen_refused put.Done v e = never (sym e)
-seen_refused (put.Refused r) v {g} e = let k : grounds_of r ≡ g = cc in ap refused k
-
--- the reader that a span leaves
-pub reader_after : (m : Moved) (x : Reader) (log : List ℕ) → x.answer ≡ m.answer → x.place ≡ m.place → x.value ≡ 0
-    → reader_of x log ≡ then_run (moved_of m log) (λ _ s. ends s (taken 0))
-reader_after m x log a p v = reader_is x log p (ap (λ (y : ℕ). seen_of x.answer y) v ∙ ap (λ (y : Put). seen_of y 0) a) ∙ go m.answer
-  where
-    go : (a : Put) → ends (standing m.place log) (seen_of a 0) ≡ follow (done_of a) (standing m.place log) (λ _ s. ends s (taken 0))
-    go put.Done = refl
-    go (put.Refused r) = refl
-
--- auxdatal, where there is one
-pub length_some : (frame : List ℕ) (width : ℕ) (q : Ran Standing ℕ) {aux : Bool} → aux ≡ true
-    → then_run q (λ _ st. length_of frame true width st) ≡ then_run q (λ _ st. length_of frame aux width st)
-length_some frame width q e = ap (λ (b : Bool). then_run q (λ _ st. length_of frame b width st)) (sym e)
-
--- no auxdatal: the reader stays, and shows 0
-pub length_none : (frame : List ℕ) (width : ℕ) (a : Put) (v : ℕ) (st : Standing) {aux : Bool} → v ≡ 0 → aux ≡ false
-    → ends st (seen_of a v) ≡ then_run (ends st (seen_of a v)) (λ _ s. length_of frame aux width s)
-length_none frame width put.Done v st z e = rw (e, z)
-length_none frame width (put.Refused r) v st z e = refl
-
-pub shows_none : (a : Put) (v : ℕ) → v ≡ 0 → v ≡ shown (seen_of a v)
-shows_none put.Done v z = refl
-shows_none (put.Refused r) v z = z
-
--- auxdatal, with the reader after it
-module _ (frame : List ℕ) (width : ℕ) (q : Ran Standing ℕ) (read : Reader) (log : List ℕ)
-    (n : reader_of read log ≡ next_of frame (tail_ask names.auxdatal AuxDataL auxdatal_bits) q) (s : read.value ≡ shown (seen_of read.answer read.value)) where
-  abbrev here : Standing
-  here = standing read.place log
-
-  abbrev measured : ℕ → Standing → Ran Standing ℕ
-  measured l st = ends st (refuse_if (ltb width l) 17 st.place.pos (taken l))
-
-  length_is : then_run (reader_of read log) measured ≡ then_run q (λ _ st. length_of frame true width st)
-  length_is =
-      ap (λ (x : Ran Standing ℕ). then_run x measured) (n ∙ next_is frame (tail_ask names.auxdatal AuxDataL auxdatal_bits) q)
-      ∙ then_then q (λ _ st. read_of frame st (tail_ask names.auxdatal AuxDataL auxdatal_bits)) measured
-
-  -- it exceeds auxbits: it has been read, so its reader was not refused
-  pub length_exceeds : width < read.value → (x : Reader) → x.place ≡ read.place → done_of x.answer ≡ refused (grounds 17 read.place.pos)
-      → reader_of x log ≡ then_run q (λ _ st. length_of frame true width st)
-  length_exceeds h x p a = reader_is x log p (seen_refused x.answer x.value a) ∙ go read.answer s ∙ length_is
-    where
-      go : (a : Put) → read.value ≡ shown (seen_of a read.value)
-          → ends here (refused (grounds 17 read.place.pos)) ≡ then_run (ends here (seen_of a read.value)) measured
-      go put.Done z = rw (lt-ltb width read.value h)
-      go (put.Refused r) z = absurd (omega arith)
-
-  pub length_read : read.value ≤ width → reader_of read log ≡ then_run q (λ _ st. length_of frame true width st)
-  length_read h = go read.answer ∙ length_is
-    where
-      go : (a : Put) → ends here (seen_of a read.value) ≡ then_run (ends here (seen_of a read.value)) measured
-      go put.Done = rw (le-ltb width read.value h)
-      go (put.Refused r) = refl
-
--- a reader that is refused shows 0
-pub shows_refused : (a : Put) {g : Grounds} → done_of a ≡ refused g → 0 ≡ shown (seen_of a 0)
-shows_refused a e = sym (ap shown (seen_refused a 0 e))
+use Rattle.frame.specs.Tail.{has_aux, behind, fit_of, outside, tail_ask, reserved_name, length_of, last_of, tiles_of, elements_of, tail_of}
 
 -- auxdatae, the reserved bit, crc2
-pub last_is : (frame : List ℕ) (codec : Codec) (r a b c : Ran Standing ℕ) → a ≡ next_of frame (tail_ask names.auxdatae AuxDataE 1) r
-    → b ≡ next_of frame (tail_ask (reserved_name codec) CrcRsv 1) a → c ≡ next_of frame (tail_ask names.crc2 Crc2 16) b
-    → c ≡ then_run r (λ _ st. last_of frame codec st)
-unfolding last_of
-last_is frame codec r a b c p q s =
-    let one : ℕ → Standing → Ran Standing ℕ = λ _ st. read_of frame st (tail_ask names.auxdatae AuxDataE 1) in
-    let two : ℕ → Standing → Ran Standing ℕ = λ _ st. read_of frame st (tail_ask (reserved_name codec) CrcRsv 1) in
-    let three : ℕ → Standing → Ran Standing ℕ = λ _ st. read_of frame st (tail_ask names.crc2 Crc2 16) in
-    s
-    ∙ next_is frame (tail_ask names.crc2 Crc2 16) b
-    ∙ ap (λ (x : Ran Standing ℕ). then_run x three) (q ∙ next_is frame (tail_ask (reserved_name codec) CrcRsv 1) a)
-    ∙ ap (λ (x : Ran Standing ℕ). then_run (then_run x two) three) (p ∙ next_is frame (tail_ask names.auxdatae AuxDataE 1) r)
-    ∙ then_then (then_run r one) two three
-    ∙ then_then r one (λ u st. then_run (two u st) three)
+module _ (codec : Codec) where
+  abbrev third : List ℕ → ℕ → Standing → Ran Standing ℕ
+  third frame _ st = read_of frame st (tail_ask names.crc2 Crc2 16)
 
--- the end of a tail, by the reader's answer and then by the answer of the tiling check
-module _ (total : ℕ) (user : Stretch) (reader : Reader) (log : List ℕ) where
-  abbrev at : Standing
-  at = standing reader.place log
+  abbrev second : List ℕ → ℕ → Standing → Ran Standing ℕ
+  second frame _ st = then_run (read_of frame st (tail_ask (reserved_name codec) CrcRsv 1)) (third frame)
 
-  pub finish_stays : {r : Refusal} → reader.answer ≡ put.Refused r
-      → ends at (told r) ≡ then_run (reader_of reader log) (λ _ st. tiles_of total user st)
-  finish_stays e = rw e
+  module _ (c₀ : Cursor) (log₀ : List ℕ) where
+    abbrev three : Ran Held ℕ
+    three = over c₀ (last_of c₀.bytes.now codec (standing c₀.place log₀))
 
-  module _ (d : reader.answer ≡ put.Done) (o : Put) (t : done_of o ≡ tiling_of log reader.place.count total) where
-    finish_is : ends at (and_then (placed total (done_of o)) (λ _. taken user)) ≡ then_run (reader_of reader log) (λ _ st. tiles_of total user st)
-    unfolding tiles_of
-    finish_is = rw (d, t)
+    abbrev next : Ask → Ran Standing ℕ
+    next k = read_of c₀.bytes.now (standing c₀.place log₀) k
 
-    pub finish_done : o ≡ put.Done → ends at (taken user) ≡ then_run (reader_of reader log) (λ _ st. tiles_of total user st)
-    finish_done e = ap (λ (x : Put). ends at (and_then (placed total (done_of x)) (λ _. taken user))) (sym e) ∙ finish_is
+    begins : {ask : Ask} → ask ≡ tail_ask names.auxdatae AuxDataE 1 → over c₀ (then_run (next ask) (second c₀.bytes.now)) ≡ three
+    unfolding last_of
+    begins a = ap (λ (k : Ask). over c₀ (then_run (next k) (second c₀.bytes.now))) a
 
-    pub finish_fails : {r : Refusal} → o ≡ put.Refused r
-        → ends at (refused (grounds (number_of r.why) total)) ≡ then_run (reader_of reader log) (λ _ st. tiles_of total user st)
-    finish_fails e = ap (λ (x : Put). ends at (and_then (placed total (done_of x)) (λ _. taken user))) (sym e) ∙ finish_is
+    module _ {ask : Ask} (a : ask ≡ tail_ask names.auxdatae AuxDataE 1) {c : Cursor} {log : List ℕ} where
+      pub last_stops : {x : Grounds} → held_of {A = ℕ} (refused x) c log ≡ over c₀ (next ask) → held_of {A = ℕ} (refused x) c log ≡ three
+      last_stops e = held_stops c₀ (next ask) second e ∙ begins a
 
--- all the steps together
-pub elements_are : (frame : List ℕ) (total : ℕ) (codec : Codec) (st : Standing) {has : Bool} → has ≡ has_aux frame total
-    → {n : ℕ} → n ≡ behind has → (m : Ran Standing Unit) → m ≡ span_of (length frame) st names.auxbits AuxBits (total - n - st.place.pos)
-    → (b : Ran Standing ℕ) → b ≡ then_run m (λ _ s. ends s (taken 0))
-    → (l : Ran Standing ℕ) → l ≡ then_run b (λ _ s. length_of frame has (total - n - st.place.pos) s)
-    → (z : Ran Standing ℕ) → z ≡ then_run l (λ _ s. last_of frame codec s) → (user : Stretch)
-    → user ≡ user_bits (record { start = st.place.pos; width = total - n - st.place.pos }) (shown l.outcome)
-    → then_run z (λ _ s. tiles_of total user s) ≡ elements_of frame total codec st
-unfolding elements_of
-elements_are frame total codec st {has} h {n} k m p b q l r z s user u =
-    rw (← h, ← k)
-    (ap (λ (x : Stretch). then_run z (λ _ y. tiles_of total x y)) u
-    ∙ ap (λ (x : Ran Standing ℕ). then_run x (λ _ y. tiles_of total (users (shown l.outcome)) y)) s
-    ∙ go l.outcome
-    ∙ ap (λ (x : Ran Standing ℕ). then_run x rest) (r ∙ ap (λ (x : Ran Standing ℕ). then_run x lengths) q ∙ then_then m (λ _ y. ends y (taken 0)) lengths)
-    ∙ then_then m (λ _ y. length_of frame has width y) rest
-    ∙ ap (λ (x : Ran Standing Unit). then_run x (λ _ y. then_run (length_of frame has width y) rest)) p)
-  where
-    width : ℕ
-    width = total - n - st.place.pos
+      module _ {u : ℕ} (e : held_of (taken u) c log ≡ over c₀ (next ask)) where
+        goes : {ask' : Ask} → ask' ≡ tail_ask (reserved_name codec) CrcRsv 1
+            → over c (then_run (read_of c.bytes.now (standing c.place log) ask') (third c.bytes.now)) ≡ three
+        goes a' =
+            ap (λ (k : Ask). over c (then_run (read_of c.bytes.now (standing c.place log) k) (third c.bytes.now))) a'
+            ∙ held_on c₀ (next ask) second e ∙ begins a
 
-    users : ℕ → Stretch
-    users v = user_bits (record { start = st.place.pos; width = width }) v
+        module _ {ask' : Ask} (a' : ask' ≡ tail_ask (reserved_name codec) CrcRsv 1) {c' : Cursor} {log' : List ℕ} where
+          pub last_stops_then : {x : Grounds} → held_of {A = ℕ} (refused x) c' log' ≡ over c (read_of c.bytes.now (standing c.place log) ask')
+              → held_of {A = ℕ} (refused x) c' log' ≡ three
+          last_stops_then f = held_stops c (read_of c.bytes.now (standing c.place log) ask') third f ∙ goes a'
 
-    rest : ℕ → Standing → Ran Standing Stretch
-    rest v y = then_run (last_of frame codec y) (λ _ x. tiles_of total (users v) x)
+          pub last_ends : {v : ℕ} → held_of (taken v) c' log' ≡ over c (read_of c.bytes.now (standing c.place log) ask')
+              → {ask'' : Ask} → ask'' ≡ tail_ask names.crc2 Crc2 16 → {o : Outcome ℕ} {c'' : Cursor} {log'' : List ℕ}
+              → held_of o c'' log'' ≡ over c' (read_of c'.bytes.now (standing c'.place log') ask'') → held_of o c'' log'' ≡ three
+          last_ends f a'' h =
+              h ∙ ap (λ (k : Ask). over c' (read_of c'.bytes.now (standing c'.place log') k)) a''
+              ∙ held_on c (read_of c.bytes.now (standing c.place log) ask') third f ∙ goes a'
 
-    lengths : ℕ → Standing → Ran Standing ℕ
-    lengths _ y = length_of frame has width y
+-- all the elements: auxbits starts at bit start
+module _ (total : ℕ) (codec : Codec) (start : ℕ) where
+  abbrev tiling : ℕ → List ℕ → ℕ → Standing → Ran Standing Stretch
+  tiling l _ _ st = tiles_of total (record { start = start; width = l }) st
 
-    go : (o : Outcome ℕ) → then_run (follow o l.state (λ _ y. last_of frame codec y)) (λ _ y. tiles_of total (users (shown o)) y)
-        ≡ follow o l.state rest
-    go (taken v) = refl
-    go (refused g) = refl
+  abbrev lasts : List ℕ → ℕ → Standing → Ran Standing Stretch
+  lasts frame l st = then_run (last_of frame codec st) (tiling l frame)
+
+  abbrev lengths : Bool → ℕ → List ℕ → Unit {0} → Standing → Ran Standing Stretch
+  lengths aux width frame _ st = then_run (length_of frame aux width st) (lasts frame)
+
+-- with what the code knows of auxdatae and of what stands behind auxbits
+module _ (total : ℕ) (codec : Codec) (c₀ : Cursor) (log₀ : List ℕ) where
+  abbrev all : Ran Held Stretch
+  all = over c₀ (elements_of c₀.bytes.now total codec (standing c₀.place log₀))
+
+  abbrev spanned : ℕ → Ran Standing Unit
+  spanned width = span_of (length c₀.bytes.now) (standing c₀.place log₀) names.auxbits AuxBits width
+
+  module _ {has : Bool} (h : has ≡ has_aux c₀.bytes.now total) {n : ℕ} (k : n ≡ behind has) where
+    abbrev width : ℕ
+    width = total - n - c₀.place.pos
+
+    starts : over c₀ (then_run (spanned width) (lengths total codec c₀.place.pos has width c₀.bytes.now)) ≡ all
+    unfolding elements_of
+    starts = rw (← h, ← k) refl
+
+    module _ {c : Cursor} {log : List ℕ} where
+      pub bits_stop : {x : Grounds} → held_of {A = Unit} (refused x) c log ≡ over c₀ (spanned width) → held_of {A = Stretch} (refused x) c log ≡ all
+      bits_stop e = held_stops c₀ (spanned width) (lengths total codec c₀.place.pos has width) e ∙ starts
+
+      module _ {u : Unit} (e : held_of (taken u) c log ≡ over c₀ (spanned width)) where
+        abbrev long : Ran Standing ℕ
+        long = length_of c.bytes.now has width (standing c.place log)
+
+        after_bits : over c (then_run long (lasts total codec c₀.place.pos c.bytes.now)) ≡ all
+        after_bits = held_on c₀ (spanned width) (lengths total codec c₀.place.pos has width) e ∙ starts
+
+        module _ {c₁ : Cursor} {log₁ : List ℕ} where
+          pub length_stop : {x : Grounds} → held_of {A = ℕ} (refused x) c₁ log₁ ≡ over c long → held_of {A = Stretch} (refused x) c₁ log₁ ≡ all
+          length_stop f = held_stops c long (lasts total codec c₀.place.pos) f ∙ after_bits
+
+          module _ {l : ℕ} (f : held_of (taken l) c₁ log₁ ≡ over c long) where
+            abbrev ending : Ran Standing ℕ
+            ending = last_of c₁.bytes.now codec (standing c₁.place log₁)
+
+            after_length : over c₁ (then_run ending (tiling total codec c₀.place.pos l c₁.bytes.now)) ≡ all
+            after_length = held_on c long (lasts total codec c₀.place.pos) f ∙ after_bits
+
+            module _ {c₂ : Cursor} {log₂ : List ℕ} where
+              pub last_stop : {x : Grounds} → held_of {A = ℕ} (refused x) c₂ log₂ ≡ over c₁ ending → held_of {A = Stretch} (refused x) c₂ log₂ ≡ all
+              last_stop p = held_stops c₁ ending (tiling total codec c₀.place.pos l) p ∙ after_length
+
+              module _ {v : ℕ} (p : held_of (taken v) c₂ log₂ ≡ over c₁ ending) where
+                abbrev closed : Outcome Unit → Ran Held Stretch
+                closed o = over c₂ (ends (standing c₂.place log₂) (and_then o (λ _. taken (record { start = c₀.place.pos; width = l }))))
+
+                pub frame_told : {o : Outcome Unit} → o ≡ placed total (tiling_of log₂ c₂.place.count total) → closed o ≡ all
+                unfolding tiles_of
+                frame_told e = ap closed e ∙ held_on c₁ ending (tiling total codec c₀.place.pos l) p ∙ after_length
 
 -- the two ways of a tail
 module _ (frame : List ℕ) (st : Standing) (total : ℕ) (codec : Codec) where

@@ -2,7 +2,7 @@
 -- document 01's numbers and its order of tests.
 -- Assumes nothing.
 use Rattle.std.specs.Prelude.{ℕ, ◌+◌, ◌-◌, Bool, true, false, cond, ◌||◌, List, length, negsuc, eqb, ltb}
-use Rattle.refusal.specs.Refusals.{Outcome, taken, told, refuse_if, and_then, placed, Ran, ends, then_run}
+use Rattle.refusal.specs.Refusals.{Outcome, taken, refuse_if, and_then, placed, Ran, ends, then_run}
 use Rattle.bits.specs.Bits.{bits_at}
 use Rattle.syntax.specs.declared.Role.{Role}
 use Rattle.syntax.specs.declared.Role.TheVariants.{AuxBits, AuxDataL, AuxDataE, CrcRsv, Crc2}
@@ -14,17 +14,6 @@ use Rattle.syntax.specs.Tiling.{tiling_of}
 use Rattle.probe.specs.declared.Codec.{Codec}
 use Rattle.probe.specs.declared.Codec.TheVariants.{Ac3, Eac3}
 use Rattle.frame.specs.declared.Stretch.{Stretch}
-use Rattle.frame.specs.declared.Tail.{Tail}
-use Rattle.frame.specs.declared.Tail.TheVariants as tail
-use Rattle.frame.specs.declared.Tailed.{Tailed}
-
--- what an answer means, with the place and the log after it
-abbrev pub user_bits_of : Tail → Outcome Stretch
-user_bits_of (tail.UserBits s) = taken s
-user_bits_of (tail.Refused r) = told r
-
-abbrev pub tailed_of : Tailed → List ℕ → Ran Standing Stretch
-tailed_of r log = record { outcome = user_bits_of r.answer; state = standing r.place log }
 
 -- 6: a total above the limit, a cursor that isn't sound, or a count past the log's room
 abbrev pub unfit : ℕ → ℕ → Place → ℕ → Bool

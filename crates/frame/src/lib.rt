@@ -2,21 +2,19 @@
 // then the elements of the whole frame must tile it.
 #![tactic(auto)]
 
-ghost use Rattle.std.specs.Prelude.{◌≡◌, true, ◌+◌, ◌*◌, ◌≤◌, ltb, length};
-ghost use Rattle.refusal.specs.Refusals.{number_of, grounds, refused, then_run};
-ghost use Rattle.bits.specs.Bits.{bits_at};
-ghost use Rattle.bits.specs.Answers.{done_of};
-ghost use Rattle.syntax.specs.Reads.{standing, room, reader_of, seen_of, shown};
+ghost use Rattle.std.specs.Prelude.{◌≡◌, true, ◌+◌, ◌*◌, ◌≤◌, length};
+ghost use Rattle.refusal.specs.Refusals.{outcome_of, placed};
+ghost use Rattle.syntax.specs.declared.Role.TheVariants.{AuxBits};
+ghost use Rattle.syntax.specs.Names as spelled;
+ghost use Rattle.syntax.specs.Reads.{standing, moved_of, span_of};
+ghost use Rattle.syntax.specs.Tiling.{tiling_of};
 ghost use Rattle.syntax.specs.Cursors.{held_of, over};
-ghost use Rattle.frame.specs.Tail.{user_bits_of, tailed_of, unfit, last_bits, has_aux, behind, fit_of, outside, user_bits, tail_ask, reserved_name, length_of, last_of, tiles_of, elements_of, tail_of};
+ghost use Rattle.frame.specs.Tail.{unfit, last_bits, has_aux, behind, fit_of, outside, tail_ask, reserved_name, length_of, last_of, elements_of, tail_of};
 
-use bits::{Got, Put};
 use probe::Codec;
 use refusal::{Refusal, Why};
-use syntax::cursor::Cursor;
-use syntax::{
-    Ask, Moved, Place, Reader, Role, check_tiling, is_unsound, names, next, room_of, span,
-};
+use syntax::cursor::{Cursor, read_next};
+use syntax::{Ask, Moved, Place, Role, check_tiling, is_unsound, names, passes, room_of, span};
 
 // The last bits of a frame: auxdatae, one reserved bit, and the 16 of crc2.
 const LAST: usize = 18;
@@ -31,69 +29,24 @@ pub struct Stretch {
     pub width: usize,
 }
 
-// What reading a tail answers.
-#[derive(Clone, Copy)]
-pub enum Tail {
-    // The bits of auxbits that are the user's; the rest is padding.
-    UserBits(Stretch),
-    Refused(Refusal),
-}
-
-// The same, with the place after it, taken or refused.
-#[derive(Clone, Copy)]
-pub struct Tailed {
-    pub answer: Tail,
-    pub place: Place,
-}
-
-// Whether so many elements are past the room of a log of so many words.
-fn is_past_room(words: usize, count: usize) -> bool
-    ensures { result ≡ ltb (room words) count }
-{
-    room_of(words) < count
-}
+// What reading a tail answers, and the place after it, taken or refused: the bits of auxbits that are the user's; the rest is padding.
+pub type Tailed = Moved<Stretch>;
 
 // Whether a tail can't be asked for so: its total, its place or the count of its log.
+// The total stands beside the frame, since it is the caller's.
 fn is_unfit(len: usize, words: usize, place: Place, total: usize) -> bool
     ensures { result ≡ unfit len words place total }
 {
-    if place.limit < total {
-        return true;
-    }
-    if is_unsound(len, place) {
-        return true;
-    }
-    is_past_room(words, place.count)
+    place.limit < total || is_unsound(len, place) || room_of(words) < place.count
 }
 
-// Whether n bits from pos on pass the total. The sum may pass a usize, so the difference is compared.
-fn is_short(total: usize, pos: usize, n: usize) -> bool
-    ensures { result ≡ ltb total (pos + n) }
-{
-    if total < pos {
-        return true;
-    }
-    total - pos < n
-}
-
-// A bit of the frame.
-fn bit_at(frame: &[u8], pos: usize) -> u32
-    requires { pos + 1 ≤ 8 * length frame.now }
-    ensures { result ≡ bits_at frame.now pos 1 }
-{
-    match bits::get(frame, pos, 1) {
-        Got::Value(v) => v,
-        // Such a bit is never refused.
-        Got::Refused(_) => 0,
-    }
-}
-
-// Whether auxdatae is 1.
+// Whether auxdatae is 1. A bit of the frame is never refused.
+#[tactic(auto, unfolding(crate::specs::Tail::has_aux))]
 fn has_aux(frame: &[u8], total: usize) -> bool
     requires { (last_bits ≤ total) × (total ≤ 8 * length frame.now) }
     ensures { result ≡ has_aux frame.now total }
 {
-    bit_at(frame, total - LAST) == 1
+    bits::get(frame, total - LAST, 1).unwrap_or(0) == 1
 }
 
 // How many bits stand behind auxbits.
@@ -103,42 +56,37 @@ fn bits_behind(aux: bool) -> usize
     if aux { AUXDATAL + LAST } else { LAST }
 }
 
-// Refused at a bit.
-fn refused(why: Why, bit: usize) -> Put
-    ensures { done_of result ≡ refused (grounds (number_of why) bit) }
-{
-    let r = Refusal { why, bit };
-    Put::Refused(r)
-}
-
 // Whether there is room for a tail: 6, then 16, then 17 where auxdatal would begin before the cursor.
-fn fit(frame: &[u8], words: usize, place: Place, total: usize) -> Put
-    ensures { done_of result ≡ fit_of frame.now words place total }
+fn fit(frame: &[u8], words: usize, place: Place, total: usize) -> Result<(), Refusal>
+    ensures { outcome_of result ≡ fit_of frame.now words place total }
 {
     let pos = place.pos;
     if is_unfit(frame.len(), words, place, total) {
-        return refused(Why::BadArgument, pos);
+        return Err(Why::BadArgument.at(pos));
     }
-    if is_short(total, pos, LAST) {
-        return refused(Why::NoRoomForTail, pos);
+    let whole = Place {
+        limit: total,
+        ..place
+    };
+    if passes(whole, LAST) {
+        return Err(Why::NoRoomForTail.at(pos));
     }
     let n = bits_behind(has_aux(frame, total));
-    if is_short(total, pos, n) {
-        return refused(Why::BadAux, pos);
+    if passes(whole, n) {
+        return Err(Why::BadAux.at(pos));
     }
-    Put::Done
+    Ok(())
 }
 
 // The place outside of any block.
 fn outside_blocks(place: Place) -> Place
     ensures { result ≡ outside place }
 {
-    let mut p = place;
-    p.block = -1;
-    p
+    Place { block: -1, ..place }
 }
 
 // An element of the tail.
+// syntax's `span_ask` once more, which is private there: a public one, with its theorem and edits, is no plainer than four fields.
 fn ask_of(name: u32, role: Role, width: usize) -> Ask
     ensures { result ≡ tail_ask name role width }
 {
@@ -160,147 +108,110 @@ fn reserved_name(codec: Codec) -> u32
     }
 }
 
-// Where the user bits stand: the one place that says so.
-fn user_bits(aux: Stretch, n: usize) -> Stretch
-    ensures { result ≡ user_bits aux n }
+// auxbits, one span.
+fn read_bits(c: &mut Cursor<'_>, log: &mut [u32], width: usize) -> Result<(), Refusal>
+    ensures { held_of (outcome_of result) c.new log.new ≡ over c.old (span_of (length c.old.bytes.now) (standing c.old.place log.old) spelled.auxbits AuxBits width) }
 {
-    Stretch {
-        start: aux.start,
-        width: n,
-    }
-}
-
-// The reader that a span leaves.
-fn reader_of(moved: Moved) -> Reader
-    ensures { (result.answer ≡ moved.answer) × (result.place ≡ moved.place) × (result.value ≡ 0) }
-{
-    let answer = moved.answer;
-    let place = moved.place;
-    Reader {
-        answer,
-        place,
-        value: 0,
-    }
+    let moved = span(c.bytes, log, c.place, names::AUXBITS, Role::AuxBits, width);
+    c.place = moved.place;
+    moved.answer
 }
 
 // auxdatal: it is read and logged; 17 where it exceeds auxbits.
-fn read_length(frame: &[u8], log: &mut [u32], reader: Reader, width: usize) -> Reader
-    ensures { (reader_of result log.new ≡ then_run (reader_of reader log.old) (λ _ st. length_of frame.now true width st)) × (result.value ≡ shown (seen_of result.answer result.value)) }
+fn read_length(c: &mut Cursor<'_>, log: &mut [u32], width: usize) -> Result<usize, Refusal>
+    ensures { held_of (outcome_of result) c.new log.new ≡ over c.old (length_of c.old.bytes.now true width (standing c.old.place log.old)) }
 {
-    let read = next(
-        frame,
-        log,
-        reader,
-        ask_of(names::AUXDATAL, Role::AuxDataL, AUXDATAL),
-    );
-    let place = read.place;
-    if width < read.value as usize {
-        return Reader {
-            answer: refused(Why::BadAux, place.pos),
-            place,
-            value: 0,
-        };
+    let length = read_next(c, log, ask_of(names::AUXDATAL, Role::AuxDataL, AUXDATAL))? as usize;
+    if width < length {
+        return Err(Why::BadAux.at(c.place.pos));
     }
-    read
+    Ok(length)
 }
 
 // auxdatal where there is one, else 0.
-fn aux_length(frame: &[u8], log: &mut [u32], reader: Reader, aux: bool, width: usize) -> Reader
-    requires { reader.value ≡ 0 }
-    ensures { (reader_of result log.new ≡ then_run (reader_of reader log.old) (λ _ st. length_of frame.now aux width st)) × (result.value ≡ shown (seen_of result.answer result.value)) }
+fn aux_length(
+    c: &mut Cursor<'_>,
+    log: &mut [u32],
+    aux: bool,
+    width: usize,
+) -> Result<usize, Refusal>
+    ensures { held_of (outcome_of result) c.new log.new ≡ over c.old (length_of c.old.bytes.now aux width (standing c.old.place log.old)) }
 {
     if aux {
-        return read_length(frame, log, reader, width);
+        return read_length(c, log, width);
     }
-    reader
+    Ok(0)
 }
 
-// auxdatae, the reserved bit and crc2.
-fn last_three(frame: &[u8], log: &mut [u32], reader: Reader, codec: Codec) -> Reader
-    ensures { reader_of result log.new ≡ then_run (reader_of reader log.old) (λ _ st. last_of frame.now codec st) }
+// auxdatae, the reserved bit and crc2, whose value is answered.
+fn last_three(c: &mut Cursor<'_>, log: &mut [u32], codec: Codec) -> Result<u32, Refusal>
+    ensures { held_of (outcome_of result) c.new log.new ≡ over c.old (last_of c.old.bytes.now codec (standing c.old.place log.old)) }
 {
     let rsv = reserved_name(codec);
-    let a = next(
-        frame,
-        log,
-        reader,
-        ask_of(names::AUXDATAE, Role::AuxDataE, 1),
-    );
-    let b = next(frame, log, a, ask_of(rsv, Role::CrcRsv, 1));
-    next(frame, log, b, ask_of(names::CRC2, Role::Crc2, 16))
+    read_next(c, log, ask_of(names::AUXDATAE, Role::AuxDataE, 1))?;
+    read_next(c, log, ask_of(rsv, Role::CrcRsv, 1))?;
+    read_next(c, log, ask_of(names::CRC2, Role::Crc2, 16))
 }
 
-// The end of a tail: 18 where the elements of the log don't tile the frame, else where the user bits stand.
-fn finished(log: &[u32], reader: Reader, total: usize, user: Stretch) -> Tailed
-    ensures { tailed_of result log.now ≡ then_run (reader_of reader log.now) (λ _ st. tiles_of total user st) }
+// 18 at the frame's end where the elements of the log don't tile the frame.
+fn check_frame(log: &[u32], count: usize, total: usize) -> Result<(), Refusal>
+    ensures { outcome_of result ≡ placed total (tiling_of log.now count total) }
 {
-    let place = reader.place;
-    let answer = reader.answer;
-    if let Put::Refused(r) = answer {
-        return Tailed {
-            answer: Tail::Refused(r),
-            place,
-        };
-    }
-    match check_tiling(log, place.count, total) {
-        Put::Done => Tailed {
-            answer: Tail::UserBits(user),
-            place,
-        },
-        Put::Refused(r) => {
-            let why = r.why;
-            let at = Refusal { why, bit: total };
-            Tailed {
-                answer: Tail::Refused(at),
-                place,
-            }
-        }
-    }
+    check_tiling(log, count, total).map_err(|r| r.why.at(total))
 }
 
-// The elements of a tail that there is room for.
-fn elements(frame: &[u8], log: &mut [u32], place: Place, total: usize, codec: Codec) -> Tailed
-    requires { (last_bits ≤ total) × (total ≤ 8 * length frame.now) × (place.pos + behind (has_aux frame.now total) ≤ total) }
-    ensures { tailed_of result log.new ≡ elements_of frame.now total codec (standing place log.old) }
+// The elements of a tail that there is room for, which tile the frame with those before them: where the user bits stand, the one place that
+// says so.
+// Total and codec come apart, as C hands them over.
+fn elements(
+    c: &mut Cursor<'_>,
+    log: &mut [u32],
+    total: usize,
+    codec: Codec,
+) -> Result<Stretch, Refusal>
+    requires { (last_bits ≤ total) × (total ≤ 8 * length c.old.bytes.now) × (c.old.place.pos + behind (has_aux c.old.bytes.now total) ≤ total) }
+    ensures { held_of (outcome_of result) c.new log.new ≡ over c.old (elements_of c.old.bytes.now total codec (standing c.old.place log.old)) }
 {
-    let has = has_aux(frame, total);
-    let pos = place.pos;
-    let width = total - bits_behind(has) - pos;
-    let aux = Stretch { start: pos, width };
-    let logged = span(frame, log, place, names::AUXBITS, Role::AuxBits, width);
-    let length = aux_length(frame, log, reader_of(logged), has, width);
-    let last = last_three(frame, log, length, codec);
-    let user = user_bits(aux, length.value as usize);
-    finished(log, last, total, user)
+    let aux = has_aux(c.bytes, total);
+    let start = c.place.pos;
+    let width = total - bits_behind(aux) - start;
+    read_bits(c, log, width)?;
+    let length = aux_length(c, log, aux, width)?;
+    last_three(c, log, codec)?;
+    check_frame(log, c.place.count, total)?;
+    Ok(Stretch {
+        start,
+        width: length,
+    })
 }
 
 // Reads the tail of a frame of total bits from the end of its audio on: 6, then 16, then 17, then the elements, with 19 where the log is
 // full and 17 after auxdatal, and last 18.
 pub fn read_tail(frame: &[u8], log: &mut [u32], place: Place, total: usize, codec: Codec) -> Tailed
-    ensures { tailed_of result log.new ≡ tail_of frame.now (standing place log.old) total codec }
+    ensures { moved_of result log.new ≡ tail_of frame.now (standing place log.old) total codec }
 {
-    match fit(frame, log.len(), place, total) {
-        Put::Done => {
-            let outside = outside_blocks(place);
-            elements(frame, log, outside, total, codec)
-        }
-        Put::Refused(r) => Tailed {
-            answer: Tail::Refused(r),
-            place,
-        },
+    let mut c = Cursor {
+        bytes: frame,
+        place,
+    };
+    let answer = read_tail_at(&mut c, log, total, codec);
+    Moved {
+        answer,
+        place: c.place,
     }
 }
 
 // The same at a cursor that is lent, which goes to where the reading ends.
-pub fn read_tail_at<'s, 'a, 'l>(
-    c: &'s mut Cursor<'a>,
-    log: &'l mut [u32],
+// Beside `read_tail`, which C calls with slices.
+pub fn read_tail_at(
+    c: &mut Cursor<'_>,
+    log: &mut [u32],
     total: usize,
     codec: Codec,
-) -> Tail
-    ensures { held_of (user_bits_of result) c.new log.new ≡ over c.old (tail_of c.old.bytes.now (standing c.old.place log.old) total codec) }
+) -> Result<Stretch, Refusal>
+    ensures { held_of (outcome_of result) c.new log.new ≡ over c.old (tail_of c.old.bytes.now (standing c.old.place log.old) total codec) }
 {
-    let tailed = read_tail(c.bytes, log, c.place, total, codec);
-    c.place = tailed.place;
-    tailed.answer
+    fit(c.bytes, log.len(), c.place, total)?;
+    c.place = outside_blocks(c.place);
+    elements(c, log, total, codec)
 }

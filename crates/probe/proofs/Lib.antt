@@ -1,4 +1,3 @@
 pub mod Examples
-pub mod Laws
 pub mod Table
 pub mod Unique

@@ -2,18 +2,11 @@
 -- numbers and its order of tests. There is no cursor here, so a refusal's bit is 0. "The frame itself need not be there."
 -- Assumes nothing.
 use Rattle.std.specs.Prelude.{ℕ, ◌+◌, ◌*◌, ◌/◌, ◌%◌, List, [], ◌∷◌, cond, not, ◌||◌, length, get_or, eqb, ltb}
-use Rattle.refusal.specs.Refusals.{Outcome, taken, told, refuse_if}
+use Rattle.refusal.specs.Refusals.{Outcome, taken, refuse_if}
 use Rattle.bits.specs.Bits.{bits_at}
 use Rattle.probe.specs.declared.Codec.{Codec}
 use Rattle.probe.specs.declared.Codec.TheVariants.{Ac3, Eac3}
 use Rattle.probe.specs.declared.Header.{Header}
-use Rattle.probe.specs.declared.Probed.{Probed}
-use Rattle.probe.specs.declared.Probed.TheVariants as probed
-
--- what an answer means
-abbrev pub probed_of : Probed → Outcome Header
-probed_of (probed.Is h) = taken h
-probed_of (probed.Refused r) = told r
 
 -- the sync word: 2 is "first 16 bits aren't 0x0B77"
 abbrev pub sync_word : ℕ

@@ -1,7 +1,7 @@
 -- Document 01's refusal numbers, and what a call comes to: a value, or a refusal by its number and the cursor's bit.
 -- Definitions above this crate are written with these words, in the document's numbers and its order of tests.
 -- Assumes nothing.
-use Rattle.std.specs.Prelude.{ℕ, Bool, cond, ◌||◌, ltb}
+use Rattle.std.specs.Prelude.{ℕ, Bool, cond, ◌||◌, ltb, Result, Ok, Err}
 use Rattle.refusal.specs.declared.Why.{Why}
 use Rattle.refusal.specs.declared.Why.TheVariants as why
 use Rattle.refusal.specs.declared.Refusal.{Refusal}
@@ -52,6 +52,11 @@ grounds_of r = grounds (number_of r.why) r.bit
 abbrev pub told : {A : Type 0} → Refusal → Outcome A
 told r = refused (grounds_of r)
 
+-- what a call comes to, by its answer
+abbrev pub outcome_of : {A : Type 0} → Result A Refusal → Outcome A
+outcome_of (Ok a) = taken a
+outcome_of (Err r) = told r
+
 -- k at bit b where the test holds, else what follows
 abbrev pub refuse_if : {A : Type 0} → Bool → ℕ → ℕ → Outcome A → Outcome A
 refuse_if test k b next = cond test (refused (grounds k b)) next
@@ -78,6 +83,10 @@ placed b (refused g) = refused (grounds g.number b)
 pub record Ran (S A : Type 0) : Type 0 where
   pub outcome : Outcome A
   pub state : S
+
+-- an answer over a state, with the state after it
+abbrev pub ran_of : {S A : Type 0} → Result A Refusal → S → Ran S A
+ran_of r s = record { outcome = outcome_of r; state = s }
 
 -- an outcome that leaves the state as it stands
 abbrev pub ends : {S A : Type 0} → S → Outcome A → Ran S A

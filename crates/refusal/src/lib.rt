@@ -5,10 +5,10 @@ ghost use Rattle.std.specs.Prelude.{◌≡◌};
 ghost use Rattle.refusal.specs.Refusals.{number_of};
 
 // Document 01, "Refusal numbers", in its order: the first is 1, the last 21. A number that comes later is appended.
-#[derive(Clone, Copy)]
+#[derive(Clone, Copy, Debug, PartialEq, Eq)]
 pub enum Why {
     // an element would pass the limit, or a bit range its buffer
-    PastLimit,
+    PastLimit = 1,
     // first 16 bits aren't 0x0B77
     NoSync,
     // probe gets under 6 bytes
@@ -52,37 +52,25 @@ pub enum Why {
 }
 
 // Why a call is refused, and the cursor's bit, 0 without a cursor.
-#[derive(Clone, Copy)]
+// 0 and no Option: the document says so, each contract has it so (`grounds_of`), and C is told so.
+#[derive(Clone, Copy, Debug, PartialEq, Eq)]
 pub struct Refusal {
     pub why: Why,
     pub bit: usize,
+}
+
+impl Why {
+    // The refusal at a bit.
+    pub fn at(self, bit: usize) -> Refusal
+        ensures { result ≡ record { why = self; bit = bit } }
+    {
+        Refusal { why: self, bit }
+    }
 }
 
 // The document's number, for programs and for C.
 pub fn number(why: Why) -> u8
     ensures { result ≡ number_of why }
 {
-    match why {
-        Why::PastLimit => 1,
-        Why::NoSync => 2,
-        Why::ShortHeader => 3,
-        Why::BadSize => 4,
-        Why::BadBsid => 5,
-        Why::BadArgument => 6,
-        Why::GroupAbove => 7,
-        Why::ExponentOutside => 8,
-        Why::SetTooShort => 9,
-        Why::NotSent => 10,
-        Why::CodePastTable => 11,
-        Why::NotCovered => 12,
-        Why::PointerAbove => 13,
-        Why::GainAbove => 14,
-        Why::BadDelta => 15,
-        Why::NoRoomForTail => 16,
-        Why::BadAux => 17,
-        Why::NotTiled => 18,
-        Why::LogFull => 19,
-        Why::BadLength => 20,
-        Why::BadTables => 21,
-    }
+    why as u8
 }

@@ -19,8 +19,8 @@ use Rattle.repair.specs.Repair.{part, five_eighths, crc_to, crc1_for, put_word, 
 use Rattle.repair.proofs.Parts.{part_two, part_more, part_set, rest_put, part_last, part_front, length_put}
 
 -- where the 5/8 point stands
-pub five_bounds : (n : ℕ) → 8 ≤ n → n ≤ 4096 → (4 ≤ five_eighths n) × (five_eighths n ≤ n - 3)
-five_bounds n h k = omega arith
+pub five_bounds : (n : ℕ) → 8 ≤ n → (4 ≤ five_eighths n) × (five_eighths n ≤ n - 3)
+five_bounds n h = omega arith
 
 -- a run to e goes on to m
 pub crc_on : (s : List ℕ) (e m : ℕ) → 2 ≤ e → e ≤ m → crc_of (crc_to e s) (part e m s) ≡ crc_to m s
@@ -53,9 +53,9 @@ pub length_settled : (s : List ℕ) → length (settled s) ≡ length s
 length_settled s = settled_either (λ t. length t ≡ length s) s (λ e. length_flipped s) (λ e. refl)
 
 -- with crc1 set, the register is 0 at the 5/8 point
-pub after_crc1 : (s : List ℕ) → 8 ≤ length s → length s ≤ 4096 → crc_to (five_eighths (length s)) (with_crc1 s) ≡ 0
+pub after_crc1 : (s : List ℕ) → 8 ≤ length s → crc_to (five_eighths (length s)) (with_crc1 s) ≡ 0
 unfolding crc_to with_crc1
-after_crc1 s h k =
+after_crc1 s h =
     let e = five_eighths (length s) in
     ap (crc_of 0) (part_front s e (crc1_for s) (omega arith) (omega arith)) ∙ crc1_good_lem (part 4 e s)
 
@@ -65,13 +65,13 @@ unfolding crc_to with_crc2
 after_crc2 s h = ap (crc_of 0) (part_last s (crc_to (length s - 2) s) h) ∙ crc_tail 0 (part 2 (length s - 2) s) (pow_pos 16)
 
 -- so the run for crc2 can start at the 5/8 point
-pub second_sum : (s : List ℕ) → 8 ≤ length s → length s ≤ 4096 → crc_of 0 (part (five_eighths (length s)) (length s - 2) s) ≡ crc_to (length s - 2) (with_crc1 s)
+pub second_sum : (s : List ℕ) → 8 ≤ length s → crc_of 0 (part (five_eighths (length s)) (length s - 2) s) ≡ crc_to (length s - 2) (with_crc1 s)
 unfolding with_crc1
-second_sum s h k =
+second_sum s h =
     let e = five_eighths (length s) in
     let m = length s - 2 in
     ap (crc_of 0) (sym (rest_put s e m 2 (crc1_for s) (omega arith)))
-    ∙ ap (λ (c : ℕ). crc_of c (part e m (with_crc1 s))) (sym (after_crc1 s h k))
+    ∙ ap (λ (c : ℕ). crc_of c (part e m (with_crc1 s))) (sym (after_crc1 s h))
     ∙ crc_on (with_crc1 s) e m (omega arith) (omega arith)
 
 -- the bit before crc2, turned over, adds the generator

@@ -4,23 +4,21 @@
 use mathlib.Core.Path.{◌≡◌, refl, sym, ap, ap₂, ◌∙◌, subst}
 use mathlib.Core.Logic.{inl, inr, ⊎_elim, ◌≢◌}
 use mathlib.Core.List.{List, [], ◌∷◌}
-use Prim.Native.Nat.{ℕ, zero, suc, ◌+◌, ◌-◌, ◌*◌, ◌/◌, ◌%◌, ◌^◌, ◌<◌, ◌≤◌}
+use Prim.Native.Nat.{ℕ, zero, suc, ◌+◌, ◌*◌, ◌/◌, ◌%◌, ◌^◌, ◌<◌, ◌≤◌}
 use native.Mathlib.Nat.{mod-lt, not-suc-le-zero, pow-suc, one-mul, mod-eq_of_lt, mod_self, zero-mod, mul_comm, le_of_suc-le-suc, div-lt_iff_lt-mul, le-div_iff_mul-le, zero-mul, zero-add, suc-ne-zero, suc_inj, lt_irrefl, lt-suc_self}
 use native.Mathlib.Numerals.{one-add}
 use native.Mathlib.Omega.{arith}
 use lib.Arith.{lt-one}
 use lib.Pow.{pow_pos, pow-lt, split, mod-mod-pow}
-use lib.ListN.{length, get_or, set, length-set, replicate, get_or-replicate}
+use lib.ListN.{length, get_or, set, length-set, length-map, replicate, get_or-replicate}
+use Rattle.std.proofs.lemmas.List.{map-set}
 use lib.Seq.{get_or-set_same, get_or-set_other}
 use lib.Bits.{bit_xor, xor_lt, xor_shr, xor_mod, xor_self, xor_zero_r}
 use Rattle.crc.proofs.Xor.{xor_pairs, xor_zero_eq}
+use Rattle.repair.specs.declared.Made.{Made}
 use Rattle.repair.specs.declared.Reduced.{Reduced}
-use Rattle.repair.specs.Basis.{Linear, Columns, Held, Places, empties, Filled, Reduces}
+use Rattle.repair.specs.Basis.{Linear, Columns, Held, none, vals, Places, empties, Filled, Reduces}
 use Rattle.repair.proofs.Cases.{equal_or_not}
-
--- a unit as the code makes it
-pub unit_law : (i : ℕ) → i < 16 → 1 * 2 ^ i % 2 ^ 16 ≡ 2 ^ i
-unit_law i h = ap (λ (k : ℕ). k % 2 ^ 16) (one-mul (2 ^ i)) ∙ mod-eq_of_lt (pow-lt h)
 
 -- two numbers that lead with bit i add up to one below it
 top_one : (i a : ℕ) → 2 ^ i ≤ a → a < 2 ^ suc i → a / 2 ^ i ≡ 1
@@ -37,6 +35,10 @@ no_high n k e =
 xor_top : (i a b : ℕ) → 2 ^ i ≤ a → a < 2 ^ suc i → 2 ^ i ≤ b → b < 2 ^ suc i → bit_xor a b < 2 ^ i
 xor_top i a b ha ka hb kb = no_high (bit_xor a b) i (xor_shr a b i ∙ ap₂ bit_xor (top_one i a ha ka) (top_one i b hb kb))
 
+-- a number and its units
+abbrev made : ℕ → ℕ → Made
+made v x = record { val = v; comb = x }
+
 -- a reduction of v with the units x that has come down to bit i
 pub record Falling (L : ℕ → ℕ) (m v x i left comb : ℕ) : Type 0 where
   pub keeps : bit_xor left (L comb) ≡ bit_xor v (L x)
@@ -45,12 +47,10 @@ pub record Falling (L : ℕ → ℕ) (m v x i left comb : ℕ) : Type 0 where
   pub small : comb < 2 ^ 16
 
 module _ (L : ℕ → ℕ) (m v x : ℕ) where
-  pub fall_start : v < 2 ^ 16 → x < 2 ^ 16 → Falling L m v x 16 v x
-  fall_start h k = record { keeps = refl; below = h; units = refl; small = k }
-
-  pub fall_end : (vals : List ℕ) (i left comb : ℕ) → i ≤ 0 → Falling L m v x i left comb → Reduces L m vals v x (record { left = left; comb = comb; at = 0 })
-  fall_end vals zero left comb h f = record { keeps = f.keeps; stops = inl (lt-one f.below); units = f.units; small = f.small }
-  fall_end vals (suc i) left comb h f = absurd (not-suc-le-zero h)
+  pub fall_end : (basis : List Made) (i left comb : ℕ) → i ≤ 0 → Falling L m v x i left comb
+      → Reduces L m basis (made v x) (record { left = made left comb; at = 0 })
+  fall_end basis zero left comb h f = record { keeps = f.keeps; stops = inl (lt-one f.below); units = f.units; small = f.small }
+  fall_end basis (suc i) left comb h f = absurd (not-suc-le-zero h)
 
   -- one place, whose unit is p
   module _ (i at p left comb : ℕ) (e : i ≡ suc at) (ep : p ≡ 2 ^ at) (f : Falling L m v x i left comb) where
@@ -62,15 +62,15 @@ module _ (L : ℕ → ℕ) (m v x : ℕ) where
     fall_pass h = record { keeps = f.keeps; below = subst (λ (k : ℕ). left < k) ep h; units = f.units; small = f.small }
 
     -- it leads with its bit, and the place is empty
-    pub fall_stop : (vals : List ℕ) → p ≤ left → get_or vals at 0 ≡ 0 → Reduces L m vals v x (record { left = left; comb = comb; at = at })
-    fall_stop vals h z = record { keeps = f.keeps; stops = inr (z, subst (λ (k : ℕ). k ≤ left) ep h, below_next); units = f.units; small = f.small }
+    pub fall_stop : (basis : List Made) → p ≤ left → (get_or basis at none).val ≡ 0 → Reduces L m basis (made v x) (record { left = made left comb; at = at })
+    fall_stop basis h z = record { keeps = f.keeps; stops = inr (z, subst (λ (k : ℕ). k ≤ left) ep h, below_next); units = f.units; small = f.small }
 
     -- it leads with its bit, which what the place holds clears
-    pub fall_take : (vals combs : List ℕ) → Linear L → Places L m vals combs → at < 16 → p ≤ left → get_or vals at 0 ≢ 0
-        → Falling L m v x at (bit_xor left (get_or vals at 0)) (bit_xor comb (get_or combs at 0))
-    fall_take vals combs lin held h k z =
-        let a = get_or vals at 0 in
-        let b = get_or combs at 0 in
+    pub fall_take : (basis : List Made) → Linear L → Places L m basis → at < 16 → p ≤ left → (get_or basis at none).val ≢ 0
+        → Falling L m v x at (bit_xor left (get_or basis at none).val) (bit_xor comb (get_or basis at none).comb)
+    fall_take basis lin held h k z =
+        let a = (get_or basis at none).val in
+        let b = (get_or basis at none).comb in
         let o = held at h in
         record {
           keeps = ap (bit_xor (bit_xor left a)) (lin.sums comb b ∙ ap (bit_xor (L comb)) (sym o.image)) ∙ xor_pairs left a (L comb) a
@@ -110,14 +110,19 @@ held_less L m i v x h =
     }
 
 -- a property of each place, after a store at one
-stored : (P : ℕ → ℕ → ℕ → Type 0) (vs cs : List ℕ) (at v x : ℕ) → length vs ≡ 16 → length cs ≡ 16 → at < 16 → P at v x
-    → ((i : ℕ) → i < 16 → P i (get_or vs i 0) (get_or cs i 0)) → (i : ℕ) → i < 16 → P i (get_or (set vs at v) i 0) (get_or (set cs at x) i 0)
-stored P vs cs at v x hv hc h p q i k =
-    let kv : at < length vs = omega arith in
-    let kc : at < length cs = omega arith in
-    equal_or_not (P i (get_or (set vs at v) i 0) (get_or (set cs at x) i 0)) i at
-    (λ e. rw (e, get_or-set_same vs at v 0, get_or-set_same cs at x 0) p)
-    (λ n. rw (get_or-set_other vs at i v 0 n, get_or-set_other cs at i x 0 n) (q i k))
+stored : (P : ℕ → Made → Type 0) (basis : List Made) (at : ℕ) (v : Made) → length basis ≡ 16 → at < 16 → P at v
+    → ((i : ℕ) → i < 16 → P i (get_or basis i none)) → (i : ℕ) → i < 16 → P i (get_or (set basis at v) i none)
+stored P basis at v hl h p q i k =
+    let l : at < length basis = omega arith in
+    equal_or_not (P i (get_or (set basis at v) i none)) i at
+    (λ e. rw (e, get_or-set_same basis at v none) p)
+    (λ n. rw (get_or-set_other basis at i v none n) (q i k))
+
+-- what the places hold, by the numbers alone
+val_at : (basis : List Made) (i : ℕ) → get_or (vals basis) i 0 ≡ (get_or basis i none).val
+val_at [] i = refl
+val_at (p ∷ basis) zero = refl
+val_at (p ∷ basis) (suc i) = val_at basis i
 
 -- the new unit is in what was reduced, and nothing below it
 new_units : (x m : ℕ) → x % 2 ^ suc m ≡ 2 ^ m % 2 ^ suc m → x % 2 ^ m ≡ 0
@@ -133,53 +138,55 @@ module _ (L : ℕ → ℕ) (lin : Linear L) where
   image_zero = lin.sums 0 0 ∙ xor_self (L 0)
 
   -- before the first column every place is empty
-  pub filled_none : Filled L 16 (replicate 16 0) (replicate 16 0)
+  pub filled_none : Filled L 16 (replicate 16 none)
   filled_none =
       record {
-        vals_length = refl;
-        combs_length = refl;
-        places = λ i h. subst (λ (k : ℕ). Held L 16 i k k) (sym (get_or-replicate 16 i 0 0 h)) (record { image = sym image_zero; leads = λ n. absurd (n refl); units = refl; small = pow_pos 16 });
+        places_length = refl;
+        places = λ i h. subst (λ (p : Made). Held L 16 i p.val p.comb) (sym (get_or-replicate 16 i none none h)) (record { image = sym image_zero; leads = λ n. absurd (n refl); units = refl; small = pow_pos 16 });
         empty = refl;
       }
 
   -- the column of unit 2 ^ m, reduced, has something left, since the unit itself is in it: it fills the place where it stopped
-  module _ (m : ℕ) (vals combs : List ℕ) (u column : ℕ) (eu : u ≡ 2 ^ m) (ec : column ≡ L u) (b : Filled L (suc m) vals combs)
-      (r : Reduced) (h : r.at < 16) (f : Reduces L (suc m) vals column u r) where
-    made : r.left ≡ L r.comb
-    made = xor_zero_eq r.left (L r.comb) (f.keeps ∙ ap (λ (k : ℕ). bit_xor k (L u)) ec ∙ xor_self (L u))
+  module _ (m : ℕ) (basis : List Made) (u column : ℕ) (eu : u ≡ 2 ^ m) (ec : column ≡ L u) (b : Filled L (suc m) basis)
+      (r : Reduced) (h : r.at < 16) (f : Reduces L (suc m) basis (made column u) r) where
+    image : r.left.val ≡ L r.left.comb
+    image = xor_zero_eq r.left.val (L r.left.comb) (f.keeps ∙ ap (λ (k : ℕ). bit_xor k (L u)) ec ∙ xor_self (L u))
 
-    with_unit : r.comb % 2 ^ suc m ≡ 2 ^ m % 2 ^ suc m
+    with_unit : r.left.comb % 2 ^ suc m ≡ 2 ^ m % 2 ^ suc m
     with_unit = f.units ∙ ap (λ (k : ℕ). k % 2 ^ suc m) eu
 
-    some : r.left ≢ 0
-    some z = new_nonzero r.comb m with_unit (lin.kernel r.comb f.small (sym made ∙ z))
+    some : r.left.val ≢ 0
+    some z = new_nonzero r.left.comb m with_unit (lin.kernel r.left.comb f.small (sym image ∙ z))
 
-    stopped : (get_or vals r.at 0 ≡ 0) × (2 ^ r.at ≤ r.left) × (r.left < 2 ^ suc r.at)
+    stopped : ((get_or basis r.at none).val ≡ 0) × (2 ^ r.at ≤ r.left.val) × (r.left.val < 2 ^ suc r.at)
     stopped = ⊎_elim (λ z. absurd (some z)) (λ w. w) f.stops
 
-    new : Held L m r.at r.left r.comb
-    new = record { image = made; leads = λ n. (stopped.1, stopped.2); units = new_units r.comb m with_unit; small = f.small }
+    new : Held L m r.at r.left.val r.left.comb
+    new = record { image = image; leads = λ n. (stopped.1, stopped.2); units = new_units r.left.comb m with_unit; small = f.small }
 
-    pub filled_more : Filled L m (set vals r.at r.left) (set combs r.at r.comb)
+    filled_one : suc (empties (vals (set basis r.at r.left))) ≡ empties (vals basis)
+    filled_one =
+        let l : r.at < length (vals basis) = rw length-map (subst (λ (k : ℕ). r.at < k) (sym b.places_length) h) in
+        ap (λ vs. suc (empties vs)) (map-set (λ (p : Made). p.val) basis r.at r.left)
+        ∙ empties_set (vals basis) r.at r.left.val l (val_at basis r.at ∙ stopped.0) some
+
+    pub filled_more : Filled L m (set basis r.at r.left)
     filled_more =
         record {
-          vals_length = length-set vals r.at r.left ∙ b.vals_length;
-          combs_length = length-set combs r.at r.comb ∙ b.combs_length;
-          places = stored (Held L m) vals combs r.at r.left r.comb b.vals_length b.combs_length h new (λ i k. held_less L m i (get_or vals i 0) (get_or combs i 0) (b.places i k));
-          empty = suc_inj (empties_set vals r.at r.left (subst (λ (k : ℕ). r.at < k) (sym b.vals_length) h) stopped.0 some ∙ b.empty);
+          places_length = length-set basis r.at r.left ∙ b.places_length;
+          places = stored (λ i p. Held L m i p.val p.comb) basis r.at r.left b.places_length h new (λ i k. held_less L m i (get_or basis i none).val (get_or basis i none).comb (b.places i k));
+          empty = suc_inj (filled_one ∙ b.empty);
         }
 
   -- with no place empty, a reduction leaves nothing of any target
-  pub solved : (m : ℕ) (vals combs : List ℕ) (t : ℕ) (r : Reduced) → m ≤ 0 → Filled L m vals combs → r.at < 16 → Reduces L m vals t 0 r → L r.comb ≡ t
-  solved m vals combs t r z b h f =
+  pub solved : (m : ℕ) (basis : List Made) (t : ℕ) (r : Reduced) → m ≤ 0 → Filled L m basis → r.at < 16 → Reduces L m basis (made t 0) r → L r.left.comb ≡ t
+  solved m basis t r z b h f =
       let p : m ≡ 0 = omega arith in
-      ⊎_elim (λ l. ap (λ (n : ℕ). bit_xor n (L r.comb)) (sym l) ∙ f.keeps ∙ ap (bit_xor t) image_zero ∙ xor_zero_r t)
-      (λ w. absurd (empties_none vals r.at (b.empty ∙ p) (subst (λ (n : ℕ). r.at < n) (sym b.vals_length) h) w.0))
+      let l : r.at < length (vals basis) = rw length-map (subst (λ (n : ℕ). r.at < n) (sym b.places_length) h) in
+      ⊎_elim (λ l. ap (λ (n : ℕ). bit_xor n (L r.left.comb)) (sym l) ∙ f.keeps ∙ ap (bit_xor t) image_zero ∙ xor_zero_r t)
+      (λ w. absurd (empties_none (vals basis) r.at (b.empty ∙ p) l (val_at basis r.at ∙ w.0)))
       f.stops
 
   -- one turn of the loop over the columns, which goes down from m to m - 1
   pub column_of : (cols : List ℕ) → Columns L cols → (i u : ℕ) → i < 16 → u ≡ 2 ^ i → get_or cols i 0 ≡ L u
   column_of cols c i u h e = c i h ∙ ap L (sym e)
-
-  pub filled_as : (m : ℕ) (vals combs : List ℕ) → 0 < m → Filled L m vals combs → Filled L (suc (m - 1)) vals combs
-  filled_as m vals combs h b = let p : m ≡ suc (m - 1) = omega arith in subst (λ (n : ℕ). Filled L n vals combs) p b

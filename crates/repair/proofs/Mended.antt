@@ -90,10 +90,10 @@ module _ (s : List ℕ) (h : 8 ≤ length s) (k : length s ≤ 4096) where
 
   ac3_first : crc_to (five_eighths (length s)) (with_crc2 settle) ≡ 0
   ac3_first =
-      let five = five_bounds (length s) h k in
+      let five = five_bounds (length s) h in
       let l1 = length_crc1 s in
       let l2 = settle_length in
-      crc2_keeps settle (five_eighths (length s)) (omega arith) (omega arith) ∙ settled_keeps first (five_eighths (length s)) (omega arith) (omega arith) ∙ after_crc1 s h k
+      crc2_keeps settle (five_eighths (length s)) (omega arith) (omega arith) ∙ settled_keeps first (five_eighths (length s)) (omega arith) (omega arith) ∙ after_crc1 s h
 
   ac3_second : crc_to (length s) (with_crc2 settle) ≡ 0
   ac3_second = ap (λ (n : ℕ). crc_to n (with_crc2 settle)) (sym settle_length) ∙ after_crc2 settle long

@@ -1,8 +1,9 @@
 -- Linear equations over bits: a linear map of 16-bit numbers, given by what it makes of the 16 units, and a basis of 16 places, one
 -- for each leading bit, by which the number is found that the map takes to a target.
 -- Assumes nothing.
-use Rattle.std.specs.Prelude.{◌≡◌, ◌⊎◌, ◌≢◌, List, [], ◌∷◌, ℕ, zero, suc, ◌%◌, ◌^◌, ◌<◌, ◌≤◌, length, get_or}
+use Rattle.std.specs.Prelude.{◌≡◌, ◌⊎◌, ◌≢◌, List, [], ◌∷◌, ℕ, zero, suc, ◌%◌, ◌^◌, ◌<◌, ◌≤◌, length, get_or, map}
 use Rattle.std.specs.Int.Bits.{bit_xor}
+use Rattle.repair.specs.declared.Made.{Made}
 use Rattle.repair.specs.declared.Reduced.{Reduced}
 
 -- L is linear, stays below 2 ^ 16 and takes nothing there but 0 to 0
@@ -22,8 +23,15 @@ pub record Held (L : ℕ → ℕ) (m i v x : ℕ) : Type 0 where
   pub units : x % 2 ^ m ≡ 0
   pub small : x < 2 ^ 16
 
-abbrev pub Places : (ℕ → ℕ) → ℕ → List ℕ → List ℕ → Type 0
-Places L m vals combs = (i : ℕ) → i < 16 → Held L m i (get_or vals i 0) (get_or combs i 0)
+-- a place that is empty, and the numbers that the places of a basis hold
+abbrev pub none : Made
+none = record { val = 0; comb = 0 }
+
+abbrev pub vals : List Made → List ℕ
+vals basis = map (λ (p : Made). p.val) basis
+
+abbrev pub Places : (ℕ → ℕ) → ℕ → List Made → Type 0
+Places L m basis = (i : ℕ) → i < 16 → Held L m i (get_or basis i none).val (get_or basis i none).comb
 
 -- how many places are empty
 abbrev pub empties : List ℕ → ℕ
@@ -32,15 +40,14 @@ empties (zero ∷ vals) = suc (empties vals)
 empties (suc v ∷ vals) = empties vals
 
 -- the basis where m columns are still to come: as many places are empty
-pub record Filled (L : ℕ → ℕ) (m : ℕ) (vals combs : List ℕ) : Type 0 where
-  pub vals_length : length vals ≡ 16
-  pub combs_length : length combs ≡ 16
-  pub places : Places L m vals combs
-  pub empty : empties vals ≡ m
+pub record Filled (L : ℕ → ℕ) (m : ℕ) (basis : List Made) : Type 0 where
+  pub places_length : length basis ≡ 16
+  pub places : Places L m basis
+  pub empty : empties (vals basis) ≡ m
 
--- v, with the units x, reduced by the places: nothing is left, or what is left leads with the bit of an empty place
-pub record Reduces (L : ℕ → ℕ) (m : ℕ) (vals : List ℕ) (v x : ℕ) (r : Reduced) : Type 0 where
-  pub keeps : bit_xor r.left (L r.comb) ≡ bit_xor v (L x)
-  pub stops : (r.left ≡ 0) ⊎ ((get_or vals r.at 0 ≡ 0) × (2 ^ r.at ≤ r.left) × (r.left < 2 ^ suc r.at))
-  pub units : r.comb % 2 ^ m ≡ x % 2 ^ m
-  pub small : r.comb < 2 ^ 16
+-- v reduced by the places: nothing is left, or what is left leads with the bit of an empty place
+pub record Reduces (L : ℕ → ℕ) (m : ℕ) (basis : List Made) (v : Made) (r : Reduced) : Type 0 where
+  pub keeps : bit_xor r.left.val (L r.left.comb) ≡ bit_xor v.val (L v.comb)
+  pub stops : (r.left.val ≡ 0) ⊎ (((get_or basis r.at none).val ≡ 0) × (2 ^ r.at ≤ r.left.val) × (r.left.val < 2 ^ suc r.at))
+  pub units : r.left.comb % 2 ^ m ≡ v.comb % 2 ^ m
+  pub small : r.left.comb < 2 ^ 16

@@ -1,7 +1,8 @@
 -- CRC status and repair of a frame, for all inputs (document 01, "CRC and its repair"; TS 102 366, 6.10.1 and 4.4.5.1).
 -- There is no cursor here, so a refusal's bit is 0. Assumes nothing.
-use Rattle.std.specs.Prelude.{Bool, cond, ◌||◌, List, ℕ, ◌+◌, ◌-◌, ◌*◌, ◌/◌, ◌%◌, ◌^◌, eqb, ltb, length, get_or, set, take, drop}
+use Rattle.std.specs.Prelude.{Bool, cond, ◌||◌, List, ℕ, ◌+◌, ◌-◌, ◌*◌, ◌/◌, ◌%◌, ◌^◌, eqb, ltb, length, get_or, set, take, drop, Result, Ok, Err}
 use Rattle.std.specs.Int.Bits.{bit_xor}
+use Rattle.refusal.specs.declared.Refusal.{Refusal}
 use Rattle.refusal.specs.Refusals.{Outcome, taken, told, refuse_if, and_then, Ran, settle}
 use Rattle.crc.specs.Crc.{crc_of, crc1_of}
 use Rattle.probe.specs.declared.Codec.{Codec}
@@ -48,11 +49,14 @@ unfoldable pub good_of : Codec → List ℕ → Checked
 good_of codec.Ac3 s = both (crc1_good s) (crc2_good s)
 good_of codec.Eac3 s = second (crc2_good s)
 
--- what an answer means
-abbrev pub status_of : Status → Outcome Checked
-status_of (status.Both a b) = taken (both a b)
-status_of (status.Second b) = taken (second b)
-status_of (status.Refused r) = told r
+-- what a status says, and what an answer means
+abbrev pub checked : Status → Checked
+checked (status.Both a b) = both a b
+checked (status.Second b) = second b
+
+abbrev pub status_of : Result Status Refusal → Outcome Checked
+status_of (Ok s) = taken (checked s)
+status_of (Err r) = told r
 
 -- the status: 20, else which checksums are good
 abbrev pub crc_status_of : Codec → List ℕ → Outcome Checked

@@ -1,19 +1,17 @@
 // Entries of `alloc`: the exponents are the bytes first, LOG_ADD the bytes second, HEARING the words. The pointers are left
 // where the exponents stood.
 ghost use Rattle.std.specs.Prelude.{◌+◌, ◌≤◌};
-ghost use Rattle.text.specs.Text.{Counts};
 
 use crate::numbers::Row;
 use crate::{lent, low, told, words};
-use alloc::{Codes, Ended, Leak};
+use alloc::{Codes, Leak};
+use std::array;
 use tables::{Bin, Delta};
 
 // START END CODES LEAK DELTA HIGH, which is 1 for hebap
 pub fn allocate(first: &mut [u8], second: &[u8], hearing: &[u32], args: Row) -> Row {
-    let mut exponents = [0u8; 256];
-    lent::take(first, 0, &mut exponents);
+    let exponents = lent::array(first);
     let mut halves = [0u16; words::ROOM];
-    let count = narrow(hearing, &mut halves);
     let mut bap = [0u8; 256];
     let answer = alloc::allocate(
         &exponents,
@@ -23,33 +21,27 @@ pub fn allocate(first: &mut [u8], second: &[u8], hearing: &[u32], args: Row) -> 
         leak(args),
         delta(args),
         tables::pointers_by(args[39] == 1),
-        &halves[..count],
+        narrow(hearing, &mut halves),
         second,
         &mut bap,
     );
-    lent::lay_channel(&bap, first, 0);
-    match answer {
-        Ended::Done => told::taken(0),
-        Ended::Refused(r) => told::refused(r),
-    }
+    lent::lay(&bap, first);
+    told::answer(answer.map(|()| 0))
 }
 
-// Puts the low halves of words at the start of out, and says how many: none where they don't fit.
-pub fn narrow(words: &[u32], out: &mut [u16]) -> usize
-    ensures { Counts result out.new }
-{
-    if out.len() < words.len() {
-        return 0;
+// The low halves of words, in the room for them: none where they don't fit.
+pub fn narrow<'a>(words: &[u32], room: &'a mut [u16; words::ROOM]) -> &'a [u16] {
+    let Some(halves) = room.get_mut(..words.len()) else {
+        return &[];
+    };
+    for (half, word) in halves.iter_mut().zip(words) {
+        *half = low::half(*word as usize);
     }
-    let mut i = 0;
-    while i < words.len() {
-        out[i] = low::half(words[i] as usize);
-        i += 1;
-    }
-    words.len()
+    halves
 }
 
 // sdcycod, fdcycod, sgaincod, dbpbcod, floorcod, fgaincod, csnroffst, fsnroffst, fscod
+// By index, each cut to its low bits.
 fn codes(args: Row) -> Codes {
     Codes {
         sdcycod: low::byte(args[2]),
@@ -65,38 +57,30 @@ fn codes(args: Row) -> Codes {
 }
 
 // 1 or 0, cplfleak, cplsleak
-fn leak(args: Row) -> Leak {
-    if args[11] == 1 {
-        return Leak::Codes(low::byte(args[12]), low::byte(args[13]));
+fn leak(args: Row) -> Option<Leak> {
+    if args[11] != 1 {
+        return None;
     }
-    Leak::None
+    Some(Leak {
+        cplfleak: low::byte(args[12]),
+        cplsleak: low::byte(args[13]),
+    })
 }
 
 // How many segments there are, and the offsets, lengths and adjustments of eight.
 fn delta(args: Row) -> Delta {
-    let offset = eight(args, 15);
-    let len = eight(args, 23);
-    let ba = eight(args, 31);
     Delta {
         count: low::byte(args[14]),
-        offset,
-        len,
-        ba,
+        offset: eight(args, 15),
+        len: eight(args, 23),
+        ba: eight(args, 31),
     }
 }
 
 // Eight numbers from a place on.
+// Where a row's numbers stand is the format's: each function says how many it takes.
 fn eight(args: Row, at: usize) -> [u8; 8]
     requires { at + 8 ≤ 48 }
 {
-    [
-        low::byte(args[at]),
-        low::byte(args[at + 1]),
-        low::byte(args[at + 2]),
-        low::byte(args[at + 3]),
-        low::byte(args[at + 4]),
-        low::byte(args[at + 5]),
-        low::byte(args[at + 6]),
-        low::byte(args[at + 7]),
-    ]
+    array::from_fn(|k| low::byte(args[at + k]))
 }

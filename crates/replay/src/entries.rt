@@ -8,114 +8,77 @@
 // numbers, at most 48 each, with 0 for those that are left out. A function's entry says what they are: an argument of a
 // narrower type is the number's low bits, and an answer begins with 0 or the refusal's number, the refusal's bit, and the
 // value. BY is `rust`, `panics` or `differs`.
+ghost use Rattle.std.specs.Prelude.{IfSome};
 ghost use Rattle.text.specs.Text.{Counts};
 
+use crate::functions::Function;
 use crate::numbers::Row;
-use crate::{functions, numbers, words};
-use text::Rest;
+use crate::{numbers, words};
 
 // How many bytes a field may hold.
 const BYTES: usize = 2304;
 
-// What stands before or after the `=`: how many bytes and words, and what is left of the line after the numbers.
-#[derive(Clone, Copy)]
+// What stands before or after the `=`, each field at the start of its room.
+#[derive(Clone, Copy, PartialEq, Eq)]
 struct Side {
+    first: [u8; BYTES],
+    second: [u8; BYTES],
+    words: [u32; words::ROOM],
+    numbers: Row,
+}
+
+// How many bytes and words the fields of a side hold: the rooms are fixed, as there is no heap.
+#[derive(Clone, Copy)]
+struct Held {
     first: usize,
     second: usize,
     words: usize,
-    rest: Rest,
 }
 
-// Whether a function answers and leaves what an entry records, and what is left of the line after the answer.
-#[derive(Clone, Copy)]
-pub struct Ran {
-    pub agrees: bool,
-    pub rest: Rest,
-}
-
-// Runs the function at a place on an entry whose fields begin at start. Where a field cannot be read, the rest says so.
-pub fn run(at: usize, line: &[u8], start: Rest) -> Ran {
-    let mut first = [0u8; BYTES];
-    let mut second = [0u8; BYTES];
-    let mut words = [0u32; words::ROOM];
-    let mut args = [0usize; numbers::ROOM];
-    let call = next_side(line, start, &mut first, &mut second, &mut words, &mut args);
+// Whether a function answers and leaves what an entry's fields record, and what is left of the line after the answer.
+pub fn run(function: Function, fields: &[u8]) -> Option<(bool, &[u8])> {
+    let mut call = Side {
+        first: [0; BYTES],
+        second: [0; BYTES],
+        words: [0; words::ROOM],
+        numbers: [0; numbers::ROOM],
+    };
+    let (held, left) = call.read(fields)?;
     // What is recorded after the call is written over what is lent, so that a `-` says that nothing changes.
-    let mut first_after = first;
-    let mut second_after = second;
-    let mut words_after = words;
-    let mut answer = [0usize; numbers::ROOM];
-    let a = call.first;
-    let b = call.second;
-    let w = call.words;
-    let told = functions::run(at, &mut first[..a], &mut second[..b], &mut words[..w], args);
-    let after = next_side(
-        line,
-        next_equals(line, call.rest),
-        &mut first_after,
-        &mut second_after,
-        &mut words_after,
-        &mut answer,
+    let mut recorded = call;
+    recorded.numbers = [0; numbers::ROOM];
+    let (_, left) = recorded.read(after_equals(left)?)?;
+    call.numbers = function.run(
+        &mut call.first[..held.first],
+        &mut call.second[..held.second],
+        &mut call.words[..held.words],
+        call.numbers,
     );
-    let agrees = numbers::same(&told, &answer)
-        && is_left(
-            &first,
-            &first_after,
-            &second,
-            &second_after,
-            &words,
-            &words_after,
-        );
-    let rest = after.rest;
-    Ran { agrees, rest }
+    Some((call == recorded, left))
 }
 
-// The fields of a side.
-fn next_side(
-    line: &[u8],
-    rest: Rest,
-    first: &mut [u8],
-    second: &mut [u8],
-    words: &mut [u32],
-    numbers: &mut Row,
-) -> Side
-    ensures { Counts result.first first.new × (Counts result.second second.new × Counts result.words words.new) }
-{
-    let a = text::next_bytes(line, rest, first);
-    let b = text::next_bytes(line, a.rest, second);
-    let w = words::next(line, b.rest, words);
-    let rest = numbers::next(line, w.rest, numbers);
-    Side {
-        first: a.count,
-        second: b.count,
-        words: w.count,
-        rest,
+impl Side {
+    // Puts the fields of a side at the start of their rooms. Answers how much they hold, and what is left of the line.
+    fn read<'a>(&mut self, line: &'a [u8]) -> Option<(Held, &'a [u8])>
+        ensures { IfSome result (λ r. Counts r.0.first self.new.first × (Counts r.0.second self.new.second × Counts r.0.words self.new.words)) }
+    {
+        let (first, line) = text::next_bytes(line, &mut self.first)?;
+        let (second, line) = text::next_bytes(line, &mut self.second)?;
+        let (words, line) = words::next(line, &mut self.words)?;
+        let line = numbers::next(line, &mut self.numbers);
+        let held = Held {
+            first,
+            second,
+            words,
+        };
+        Some((held, line))
     }
 }
 
 // What is left after an `=`.
-fn next_equals(line: &[u8], rest: Rest) -> Rest {
-    let word = text::next_word(line, rest);
-    let from = word.from;
-    let end = word.rest.at;
-    let good = &line[from..end] == b"=".as_slice();
-    Rest { at: end, good }
-}
-
-// Whether the lent bytes and words are what is recorded after the call.
-fn is_left(
-    first: &[u8; BYTES],
-    first_after: &[u8; BYTES],
-    second: &[u8; BYTES],
-    second_after: &[u8; BYTES],
-    words: &[u32; words::ROOM],
-    words_after: &[u32; words::ROOM],
-) -> bool {
-    if first != first_after {
-        return false;
+fn after_equals(line: &[u8]) -> Option<&[u8]> {
+    match text::next_word(line)? {
+        (b"=", left) => Some(left),
+        _ => None,
     }
-    if second != second_after {
-        return false;
-    }
-    words::same(words, words_after)
 }

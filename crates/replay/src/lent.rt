@@ -1,36 +1,39 @@
-// Lent bytes that a call takes or leaves in an array of its own.
+// Lent bytes that a call takes or leaves in arrays of its own.
+ghost use Rattle.std.specs.Prelude.{◌<◌};
 
-// Fills a row with the bytes from a place on; where there are fewer, the row stays.
-pub fn take(from: &[u8], at: usize, row: &mut [u8]) {
-    if from.len() < at {
-        return;
-    }
-    if from.len() - at < row.len() {
-        return;
-    }
-    let mut i = 0;
-    while i < row.len() {
-        row[i] = from[at + i];
-        i += 1;
+// The first N bytes: zeros where there are fewer.
+pub fn array<const N: usize>(from: &[u8]) -> [u8; N] {
+    match from.first_chunk::<N>() {
+        Some(bytes) => *bytes,
+        None => [0; N],
     }
 }
 
-// Lays a row from a place on; where there is no room for it, all stays.
-pub fn lay(row: &[u8], to: &mut [u8], at: usize) {
-    if to.len() < at {
-        return;
-    }
-    if to.len() - at < row.len() {
-        return;
-    }
-    let mut i = 0;
-    while i < row.len() {
-        to[at + i] = row[i];
-        i += 1;
+// Lays an array over the first bytes: where there is no room for it, all stays.
+pub fn lay<const N: usize>(array: &[u8; N], to: &mut [u8]) {
+    if let Some(bytes) = to.first_chunk_mut::<N>() {
+        *bytes = *array;
     }
 }
 
-// Lays a channel's bytes from a place on.
-pub fn lay_channel(bytes: &[u8; 256], to: &mut [u8], at: usize) {
-    lay(bytes, to, at);
+// The bytes as M rows of N: zeros in a row for which there are fewer.
+pub fn rows<const N: usize, const M: usize>(from: &[u8]) -> [[u8; N]; M]
+    requires { 0 < N }
+{
+    let mut rows = [[0; N]; M];
+    let (whole, _) = from.as_chunks::<N>();
+    for (row, bytes) in rows.iter_mut().zip(whole) {
+        *row = *bytes;
+    }
+    rows
+}
+
+// Lays rows one after another over the first bytes: those for which there is no room are left out.
+pub fn lay_rows<const N: usize>(rows: &[[u8; N]], to: &mut [u8])
+    requires { 0 < N }
+{
+    let (whole, _) = to.as_chunks_mut::<N>();
+    for (bytes, row) in whole.iter_mut().zip(rows) {
+        *bytes = *row;
+    }
 }

@@ -1,34 +1,29 @@
 // Rows of numbers: what a call is asked, or what it answers. Those that are not there are 0.
-use text::Rest;
+ghost use Rattle.std.specs.Prelude.{◌≤◌, length};
 
 // At most so many.
 pub const ROOM: usize = 48;
 
 pub type Row = [usize; ROOM];
 
-// Puts the next words of a line, up to the first that is no number, at the start of out. Answers what is left after them.
-pub fn next(line: &[u8], rest: Rest, out: &mut Row) -> Rest {
-    let mut left = rest;
-    let mut k = 0;
-    while k < ROOM {
-        let number = text::next_number(line, left, u64::MAX);
-        if !number.rest.good {
-            return left;
-        }
-        out[k] = number.value as usize;
-        left = number.rest;
-        k += 1;
-    }
-    left
+// A row that begins with these.
+pub fn row(numbers: &[usize]) -> Row
+    requires { length numbers.now ≤ 48 }
+{
+    let mut row = [0; ROOM];
+    row[..numbers.len()].copy_from_slice(numbers);
+    row
 }
 
-pub fn same(a: &Row, b: &Row) -> bool {
-    let mut k = 0;
-    while k < ROOM {
-        if a[k] != b[k] {
-            return false;
-        }
-        k += 1;
+// Puts the next words of a line, up to the first that is no number, at the start of out. Answers what is left after them.
+pub fn next<'a>(line: &'a [u8], out: &mut Row) -> &'a [u8] {
+    let mut left = line;
+    for number in out {
+        let Some((value, after)) = text::next_number(left, u64::MAX) else {
+            break;
+        };
+        *number = value as usize;
+        left = after;
     }
-    true
+    left
 }

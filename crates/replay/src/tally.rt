@@ -1,35 +1,66 @@
-// What is counted, each at a place of its own: first the entries that agree for each function, in the order of the list.
-use crate::functions;
+// What is counted. A count that cannot grow stays.
+use crate::functions::{COUNT, Function};
+use crate::lines::{Became, Decider};
 
-// Entries that agree, by who decided: the Rust, or document 01 where the Rust panics or answers otherwise.
-pub const RUST: usize = functions::COUNT;
-
-pub const PANICS: usize = RUST + 1;
-
-pub const OTHERWISE: usize = RUST + 2;
-// What each line became.
-pub const AGREE: usize = RUST + 3;
-
-pub const DIFFER: usize = RUST + 4;
-
-pub const UNREAD: usize = RUST + 5;
-
-pub const PASSED: usize = RUST + 6;
-
-pub const UNREAD_FILES: usize = RUST + 7;
-
-pub const PLACES: usize = RUST + 8;
-
-// One more at a place. A count that cannot grow stays.
-pub fn count(tally: &mut [u64], at: usize) {
-    if at < tally.len() {
-        let n = tally[at];
-        if n < u64::MAX {
-            tally[at] = n + 1;
-        }
-    }
+#[derive(Clone, Copy)]
+pub struct Tally {
+    // Entries that agree, for each function and for all.
+    each: [u64; COUNT],
+    pub agree: u64,
+    // Those of them where the Rust panics, and where it answers otherwise.
+    pub panics: u64,
+    pub otherwise: u64,
+    // Entries that differ, lines that cannot be read, and files.
+    pub differ: u64,
+    pub unread: u64,
+    pub unread_files: u64,
 }
 
-pub fn counted(tally: &[u64], at: usize) -> u64 {
-    if at < tally.len() { tally[at] } else { 0 }
+impl Tally {
+    pub fn new() -> Tally {
+        Tally {
+            each: [0; COUNT],
+            agree: 0,
+            panics: 0,
+            otherwise: 0,
+            differ: 0,
+            unread: 0,
+            unread_files: 0,
+        }
+    }
+
+    // How many entries of a function agree.
+    pub fn of(&self, function: Function) -> u64 {
+        self.each[function as usize]
+    }
+
+    // Whether everything was read and agrees.
+    pub fn is_whole(&self) -> bool {
+        self.differ == 0 && self.unread == 0 && self.unread_files == 0
+    }
+
+    // Counts what became of a line.
+    pub fn count(&mut self, became: Became) {
+        match became {
+            Became::Passed => {}
+            Became::Agrees(function, decider) => self.count_agreement(function, decider),
+            Became::Differs => self.differ = self.differ.saturating_add(1),
+            Became::Unread => self.unread = self.unread.saturating_add(1),
+        }
+    }
+
+    pub fn count_unread_file(&mut self) {
+        self.unread_files = self.unread_files.saturating_add(1);
+    }
+
+    fn count_agreement(&mut self, function: Function, decider: Decider) {
+        let each = self.each[function as usize];
+        self.each[function as usize] = each.saturating_add(1);
+        self.agree = self.agree.saturating_add(1);
+        match decider {
+            Decider::Rust => {}
+            Decider::Panics => self.panics = self.panics.saturating_add(1),
+            Decider::Differs => self.otherwise = self.otherwise.saturating_add(1),
+        }
+    }
 }

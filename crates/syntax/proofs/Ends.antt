@@ -1,22 +1,18 @@
 -- The ends of a read, a span, a closing and the sticky reader: what each comes to once its tests are known.
 -- Assumes nothing.
-use Prim.Native.Nat.{ℕ, ◌+◌, ◌-◌, ◌≤◌, ◌<◌}
+use Prim.Native.Nat.{ℕ, ◌+◌, ◌-◌, ◌≤◌}
 use mathlib.Core.Path.{◌≡◌, refl, sym, ap, ◌∙◌}
 use mathlib.Core.List.{List}
 use mathlib.Core.Bool.{Bool, true, false, cond}
 use lib.ListN.{length}
 use lib.Dec.{ltb}
-use borrow.Author.Tests.{le-ltb, lt-ltb}
-use Rattle.refusal.specs.Refusals.{Grounds, grounds, Outcome, taken, refused, and_then, Ran, settle, follow, then_run}
-use Rattle.refusal.proofs.Laws.{never, settle_stays, settle_moves, run_stops}
+use borrow.Author.Tests.{le-ltb}
+use Rattle.refusal.specs.Refusals.{Grounds, Outcome, taken, refused, and_then, Ran, settle, follow, then_run}
+use Rattle.refusal.proofs.Laws.{never, settle_moves, run_stops}
 use Rattle.bits.specs.Bits.{bits_at}
-use Rattle.bits.specs.Answers.{got_of}
 use Rattle.syntax.specs.declared.Role.{Role}
 use Rattle.syntax.specs.declared.Ask.{Ask}
-use Rattle.syntax.specs.declared.Place.{Place}
-use Rattle.syntax.specs.declared.Reading.{Reading}
-use Rattle.syntax.specs.declared.Reader.{Reader}
-use Rattle.syntax.specs.Reads.{Standing, standing, reading_of, raw_reading_of, fits, value_at, element_of, logged, read_of, span_ask, span_of, closes, close_of, next_of, seen_of, reader_of}
+use Rattle.syntax.specs.Reads.{Standing, fits, element_of, logged, read_of, span_ask, span_of, closes, close_of, next_of}
 use Rattle.refusal.proofs.TestLaws.{clash}
 
 module _ {S A : Type 0} (s s' : S) where
@@ -27,15 +23,6 @@ module _ {S A : Type 0} (s s' : S) where
   then_taken false g (taken x) v e f = refl
   then_taken false g (refused h) v e f = never f
 
--- a reading's meaning, by its parts
-pub raw_is : (q : Reading) {p : Place} {o : Outcome ℕ} → q.place ≡ p → got_of q.answer ≡ o → raw_reading_of q ≡ record { outcome = o; state = p }
-raw_is q {p} e f =
-    ap {B = Ran Place ℕ} (λ x. record { outcome = got_of q.answer; state = x }) e ∙ ap {B = Ran Place ℕ} (λ x. record { outcome = x; state = p }) f
-
-pub reading_is : (q : Reading) (log : List ℕ) {p : Place} {o : Outcome ℕ} → q.place ≡ p → got_of q.answer ≡ o
-    → reading_of q log ≡ record { outcome = o; state = standing p log }
-reading_is q log e f = ap {B = Ran Standing ℕ} (λ (x : Ran Place ℕ). record { outcome = x.outcome; state = standing x.state log }) (raw_is q e f)
-
 -- a read that is taken, whose width is at most 32
 module _ (frame : List ℕ) (st : Standing) (a : Ask) (narrow : a.width ≤ 32) where
   pub read_on_lem : (v : ℕ) → v ≡ bits_at frame st.place.pos a.width
@@ -45,19 +32,7 @@ module _ (frame : List ℕ) (st : Standing) (a : Ask) (narrow : a.width ≤ 32) 
   unfolding read_of
   read_on_lem v e f = rw e (sym (then_taken _ _ (ltb 32 a.width) _ (fits (length frame) (length st.log) st.place a.width) _ (le-ltb 32 a.width narrow) f))
 
--- the three ends of its value alone
-module _ (frame : List ℕ) (words : ℕ) (p : Place) (width : ℕ) where
-  pub value_wide : 32 < width → ◌≡◌ {A = Outcome ℕ} (refused (grounds 6 p.pos)) (value_at frame words p width)
-  value_wide h = simp (lt-ltb 32 width h)
-
-  module _ (narrow : width ≤ 32) where
-    pub value_on : (v : ℕ) → v ≡ bits_at frame p.pos width → fits (length frame) words p width ≡ taken tt → taken v ≡ value_at frame words p width
-    value_on v e f = simp (le-ltb 32 width narrow, f) (ap taken e)
-
-    pub value_stops : {g : Grounds} → fits (length frame) words p width ≡ refused g → ◌≡◌ {A = Outcome ℕ} (refused g) (value_at frame words p width)
-    value_stops f = simp (le-ltb 32 width narrow, f)
-
--- the two ends of a span
+-- a span that is taken
 module _ (len : ℕ) (st : Standing) (name : ℕ) (role : Role) (width : ℕ) where
   pub span_on : fits len (length st.log) st.place width ≡ taken tt
       → ◌≡◌ {A = Ran Standing Unit} (record { outcome = taken tt; state = logged st (element_of st.place st.place.pos (span_ask name role width) 0) (st.place.pos + width) })
@@ -65,12 +40,7 @@ module _ (len : ℕ) (st : Standing) (name : ℕ) (role : Role) (width : ℕ) wh
   unfolding span_of
   span_on f = sym (settle_moves _ _ (fits len (length st.log) st.place width) f)
 
-  pub span_stops : {g : Grounds} → fits len (length st.log) st.place width ≡ refused g
-      → ◌≡◌ {A = Ran Standing Unit} (record { outcome = refused g; state = st }) (span_of len st name role width)
-  unfolding span_of
-  span_stops f = sym (settle_stays _ _ (fits len (length st.log) st.place width) f)
-
--- and of closing one
+-- and a closing
 module _ (len : ℕ) (st : Standing) (name : ℕ) (role : Role) (start : ℕ) where
   pub close_on : (next : ℕ) → next ≡ st.place.pos → closes len (length st.log) st.place start ≡ taken tt
       → ◌≡◌ {A = Ran Standing Unit}
@@ -78,11 +48,6 @@ module _ (len : ℕ) (st : Standing) (name : ℕ) (role : Role) (start : ℕ) wh
       (close_of len st name role start)
   unfolding close_of
   close_on next e f = rw e (sym (settle_moves _ _ (closes len (length st.log) st.place start) f))
-
-  pub close_stops : {g : Grounds} → closes len (length st.log) st.place start ≡ refused g
-      → ◌≡◌ {A = Ran Standing Unit} (record { outcome = refused g; state = st }) (close_of len st name role start)
-  unfolding close_of
-  close_stops f = sym (settle_stays _ _ (closes len (length st.log) st.place start) f)
 
 -- the sticky reader: one that was taken reads on, one that is refused stays
 module _ (frame : List ℕ) (a : Ask) where
@@ -105,10 +70,3 @@ module _ (frame : List ℕ) (a : Ask) where
 -- an element that is asked for by an equal ask
 pub asked : (frame : List ℕ) (q : Ran Standing ℕ) {x y : Ask} {p : Ran Standing ℕ} → x ≡ y → p ≡ next_of frame x q → p ≡ next_of frame y q
 asked frame q {x} {y} {p} e f = f ∙ ap (λ (z : Ask). next_of frame z q) e
-
--- a reader's meaning, by its parts
-pub reader_is : (q : Reader) (log : List ℕ) {p : Place} {o : Outcome ℕ} → q.place ≡ p → seen_of q.answer q.value ≡ o
-    → reader_of q log ≡ record { outcome = o; state = standing p log }
-reader_is q log {p} e f =
-    ap {B = Ran Standing ℕ} (λ x. record { outcome = seen_of q.answer q.value; state = standing x log }) e
-    ∙ ap {B = Ran Standing ℕ} (λ x. record { outcome = x; state = standing p log }) f

@@ -2,58 +2,13 @@
 -- Assumes nothing.
 use Prim.Native.Nat.{ℕ, ◌+◌, ◌*◌, ◌/◌, ◌%◌, ◌≤◌, ◌<◌}
 use mathlib.Core.Path.{◌≡◌, refl, sym}
-use mathlib.Core.List.{List, [], ◌∷◌}
 use mathlib.Core.Bool.{Bool, true, ◌&&◌, not}
-use mathlib.Core.Logic.{inl, inr}
 use native.Mathlib.Omega.{arith}
 use lib.Dec.{leb}
-use types.Run.{OneOf}
-use denote.Enum.Declared.{tag_of}
 use Rattle.syntax.specs.declared.Role.{Role}
 use Rattle.syntax.specs.declared.Role.TheVariants.{Plain, Sync, Crc1, Crc2, CrcRsv, FrameSize, Dialnorm, ComprExists, Compr, DynrngExists, Dynrng, Skiple, Skipl, Skipfld, Addbsi, Mantissas, AuxBits, AuxDataL, AuxDataE, BlkStrtInfoE, BlkStrtInfo}
-use Rattle.syntax.specs.contracts.Role as role
 use Rattle.syntax.specs.Elements.{role_number, programme_of, role_word, role_of}
-use Rattle.refusal.proofs.TestLaws.{clash, and_left, and_right}
-
--- a test holds at each of some numbers
-abbrev pub every : (ℕ → Bool) → List ℕ → Bool
-every f [] = true
-every f (k ∷ ks) = f k && every f ks
-
--- so it holds at one of them
-one_of : (f : ℕ → Bool) (ks : List ℕ) (n : ℕ) → every f ks ≡ true → OneOf ks n → f n ≡ true
-one_of f [] n e h = absurd h
-one_of f (k ∷ []) n e h = rw h (and_left (f k) true e)
-one_of f (k ∷ k' ∷ ks) n e (inl h) = rw h (and_left (f k) _ e)
-one_of f (k ∷ k' ∷ ks) n e (inr h) = one_of f (k' ∷ ks) n (and_right (f k) _ e) h
-
--- the code's cases are numbered as the roles are
-tag_number : (r : Role) → tag_of role.the_type r ≡ role_number r
-tag_number Plain = refl
-tag_number Sync = refl
-tag_number Crc1 = refl
-tag_number Crc2 = refl
-tag_number CrcRsv = refl
-tag_number FrameSize = refl
-tag_number (Dialnorm p) = refl
-tag_number (ComprExists p) = refl
-tag_number (Compr p) = refl
-tag_number (DynrngExists p) = refl
-tag_number (Dynrng p) = refl
-tag_number Skiple = refl
-tag_number Skipl = refl
-tag_number Skipfld = refl
-tag_number Addbsi = refl
-tag_number Mantissas = refl
-tag_number AuxBits = refl
-tag_number AuxDataL = refl
-tag_number AuxDataE = refl
-tag_number BlkStrtInfoE = refl
-tag_number BlkStrtInfo = refl
-
--- so in an arm over some of the cases a test on the role's number holds, where it holds at each of theirs
-pub matched : (f : ℕ → Bool) (ks : List ℕ) → every f ks ≡ true → (r : Role) → OneOf ks (tag_of role.the_type r) → f (role_number r) ≡ true
-matched f ks e r h = rw (tag_number r) at (one_of f ks (tag_of role.the_type r) e h)
+use Rattle.refusal.proofs.TestLaws.{clash}
 
 -- the numbers of the roles that carry a programme
 abbrev pub carries : ℕ → Bool

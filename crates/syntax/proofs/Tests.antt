@@ -10,7 +10,7 @@ use native.Mathlib.Omega.{arith}
 use lib.Dec.{ltb, eqb}
 use borrow.Author.Tests.{ltb-false, eqb-false, le-ltb, ne_eqb}
 use types.Run.{OneOf}
-use Rattle.refusal.specs.Refusals.{Grounds, grounds, Outcome, taken, refused}
+use Rattle.refusal.specs.Refusals.{Grounds, Outcome, taken, refused}
 use Rattle.refusal.proofs.Laws.{never, past_test}
 use Rattle.syntax.specs.declared.Place.{Place}
 use Rattle.syntax.specs.Reads.{room, unsound, fits, closes}
@@ -66,21 +66,6 @@ module _ (len words : ℕ) (p : Place) (width : ℕ) where
         le-ltb p.limit (p.pos + width) f.within,
         ne_eqb p.count (room words) (λ e. omega (arith, f.room_left)),
       )
-
-  -- where it is not refused with 6: the first test that holds tells its refusal
-  module _ {most : ℕ} (r : most ≡ room words) (s : unsound len p ≡ false) (h : p.count ≤ most) where
-    pub fits_past : {g : Grounds} → ltb p.limit (p.pos + width) ≡ true → g ≡ grounds 1 p.pos → refused g ≡ fits len words p width
-    unfolding fits
-    fits_past u e = simp (s, sym r, le-ltb most p.count h, u) (ap refused e)
-
-    pub fits_full : {g : Grounds} → ltb p.limit (p.pos + width) ≡ false → eqb p.count most ≡ true → g ≡ grounds 19 p.pos
-        → refused g ≡ fits len words p width
-    unfolding fits
-    fits_full u v e = simp (s, sym r, le-ltb most p.count h, u, v) (ap refused e)
-
-    pub fits_done : ltb p.limit (p.pos + width) ≡ false → eqb p.count most ≡ false → taken tt ≡ fits len words p width
-    unfolding fits
-    fits_done u v = simp (s, sym r, le-ltb most p.count h, u, v)
 
 module _ (len words : ℕ) (p : Place) (start : ℕ) where
   -- a span that ends at the cursor

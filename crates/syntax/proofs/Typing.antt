@@ -15,12 +15,10 @@ use mir.Val.{Val}
 use Rattle.syntax.specs.declared.Role.{Role}
 use Rattle.syntax.specs.declared.Role.TheVariants.{Plain, Sync, Crc1, Crc2, CrcRsv, FrameSize, Dialnorm, ComprExists, Compr, DynrngExists, Dynrng, Skiple, Skipl, Skipfld, Addbsi, Mantissas, AuxBits, AuxDataL, AuxDataE, BlkStrtInfoE, BlkStrtInfo}
 use Rattle.syntax.specs.Elements.{programme_of, Typed}
-use Rattle.syntax.specs.declared.Reading.{Reading}
 use Rattle.syntax.specs.declared.Moved.{Moved}
 use Rattle.syntax.specs.Reads.{Standing, standing, element_of, span_ask}
 use Rattle.syntax.specs.Tiling.{element_at}
-use Rattle.refusal.specs.Refusals.{taken, Ran}
-use Rattle.bits.specs.Answers.{got_of, done_of}
+use Rattle.refusal.specs.Refusals.{taken, Ran, outcome_of}
 use Rattle.syntax.proofs.ReadBack.{read_back_lem, span_back, close_back}
 use Rattle.syntax.specs.contracts.Role as role
 use Rattle.syntax.proofs.end.Kinds as end-kinds
@@ -75,17 +73,17 @@ pub close_typed : (κs : Lfts 2) (a : Dens κs close-span-kinds.ps) → GoodsP �
 close_typed κs a g = record { programme = role_typed a.1.1.1.1.0 _ g.1.1.1.1.0; block = search rules; index = search rules }
 
 -- after `read_element` that answered v: the log at exit, with the count of the place answered, has the element at the old count
-pub read_element_back : (κs : Lfts 2) (a : Dens κs read-element-kinds.ps) (x : Reading)
+pub read_element_back : (κs : Lfts 2) (a : Dens κs read-element-kinds.ps) (x : Moved ℕ)
     (s : AtExit (ended_of 2 read-element-kinds.ps read-element-kinds.r) κs) (v : ℕ)
-    → GoodsP κs read-element-kinds.ps a → read-element-reads.Post κs a x s → got_of x.answer ≡ taken v
+    → GoodsP κs read-element-kinds.ps a → read-element-reads.Post κs a x s → outcome_of x.answer ≡ taken v
     → element_at s.1.0.now x.place.count a.1.1.0.count ≡ taken (element_of a.1.1.0 a.1.1.0.pos a.1.1.1.0 v)
 read_element_back κs a x s v g p h =
     ap (λ (w : Ran Standing ℕ). element_at w.state.log w.state.place.count a.1.1.0.count) p
     ∙ read_back_lem a.0.now (standing a.1.1.0 a.1.0.now) a.1.1.1.0 v (read_typed κs a g v) (sym (ap (λ w. w.outcome) p) ∙ h)
 
 -- after `span`
-pub span_element_back : (κs : Lfts 2) (a : Dens κs span-kinds.ps) (x : Moved) (s : AtExit (ended_of 2 span-kinds.ps span-kinds.r) κs)
-    → GoodsP κs span-kinds.ps a → span-reads.Post κs a x s → done_of x.answer ≡ taken tt
+pub span_element_back : (κs : Lfts 2) (a : Dens κs span-kinds.ps) (x : Moved Unit) (s : AtExit (ended_of 2 span-kinds.ps span-kinds.r) κs)
+    → GoodsP κs span-kinds.ps a → span-reads.Post κs a x s → outcome_of x.answer ≡ taken tt
     → element_at s.1.0.now x.place.count a.1.1.0.count
     ≡ taken (element_of a.1.1.0 a.1.1.0.pos (span_ask a.1.1.1.0 a.1.1.1.1.0 a.1.1.1.1.1.0) 0)
 span_element_back κs a x s g p h =
@@ -94,9 +92,9 @@ span_element_back κs a x s g p h =
     (span_typed κs a g) (sym (ap (λ w. w.outcome) p) ∙ h)
 
 -- after `close_span`
-pub close_element_back : (κs : Lfts 2) (a : Dens κs close-span-kinds.ps) (x : Moved)
+pub close_element_back : (κs : Lfts 2) (a : Dens κs close-span-kinds.ps) (x : Moved Unit)
     (s : AtExit (ended_of 2 close-span-kinds.ps close-span-kinds.r) κs)
-    → GoodsP κs close-span-kinds.ps a → close-span-reads.Post κs a x s → done_of x.answer ≡ taken tt
+    → GoodsP κs close-span-kinds.ps a → close-span-reads.Post κs a x s → outcome_of x.answer ≡ taken tt
     → element_at s.1.0.now x.place.count a.1.1.0.count
     ≡ taken (element_of a.1.1.0 a.1.1.1.1.1.0 (span_ask a.1.1.1.0 a.1.1.1.1.0 (a.1.1.0.pos - a.1.1.1.1.1.0)) 0)
 close_element_back κs a x s g p h =

@@ -11,24 +11,9 @@ use contract.Lifetimes.{Lfts}
 use contract.Monad.{Fun}
 use borrow.Fn.Kinds.{Dens, ended_of}
 use denote.Triple.Clauses.{AtExit}
-use Rattle.refusal.specs.Refusals.{Outcome, taken, refused}
-use Rattle.refusal.proofs.Laws.{never, taken_same}
-use Rattle.refusal.proofs.Unique.{refusal_of, refusal_back, one_answer}
+use Rattle.refusal.specs.Refusals.{outcome_of}
+use Rattle.refusal.proofs.Unique.{answer_one}
 use Rattle.refusal.proofs.Decides.{Decides}
-use Rattle.bits.specs.declared.Got.{Got}
-use Rattle.bits.specs.declared.Put.{Put}
-use Rattle.bits.specs.declared.Put.TheVariants as put
-use Rattle.bits.specs.Answers.{got_of, done_of}
-use Rattle.bits.proofs.Unique.{got_back, got_back_lem, done_back, done_back_lem}
-use Rattle.syntax.specs.declared.Element.{Element}
-use Rattle.syntax.specs.declared.Place.{Place}
-use Rattle.syntax.specs.declared.Reading.{Reading}
-use Rattle.syntax.specs.declared.Moved.{Moved}
-use Rattle.syntax.specs.declared.Reader.{Reader}
-use Rattle.syntax.specs.declared.Found.{Found}
-use Rattle.syntax.specs.declared.Found.TheVariants as found
-use Rattle.syntax.specs.Reads.{seen_of, shown}
-use Rattle.syntax.specs.Tiling.{found_of}
 use Rattle.syntax.proofs.role_word.Kinds as role-word-kinds
 use Rattle.syntax.proofs.role_word.Reads as role-word-reads
 use Rattle.syntax.proofs.role_of.Kinds as role-of-kinds
@@ -68,46 +53,12 @@ use Rattle.syntax.specs.contracts.cursor.position as position
 use Rattle.syntax.specs.contracts.cursor.read_next as read_next
 use Rattle.syntax.specs.contracts.cursor.raw_next as raw-next
 use Rattle.syntax.specs.contracts.cursor.close_next as close-next
+use Rattle.syntax.specs.declared.Moved.{Moved}
 use Rattle.syntax.proofs.Agree.{Agree, agree}
 
--- each answer's meaning leads back to it
-reading_same : (x y : Reading) → got_of x.answer ≡ got_of y.answer → x.place ≡ y.place → x ≡ y
-reading_same x y e f =
-    ap (λ (a : Got). record { answer = a; place = x.place }) (one_answer got_of got_back got_back_lem x.answer y.answer e refl)
-    ∙ ap (λ (p : Place). record { answer = y.answer; place = p }) f
-
-moved_same : (x y : Moved) → done_of x.answer ≡ done_of y.answer → x.place ≡ y.place → x ≡ y
-moved_same x y e f =
-    ap (λ (a : Put). record { answer = a; place = x.place }) (one_answer done_of done_back done_back_lem x.answer y.answer e refl)
-    ∙ ap (λ (p : Place). record { answer = y.answer; place = p }) f
-
-abbrev seen_back : Outcome ℕ → Put
-seen_back (taken _) = put.Done
-seen_back (refused g) = put.Refused (refusal_of g)
-
-seen_back_lem : (a : Put) (v : ℕ) → seen_back (seen_of a v) ≡ a
-seen_back_lem put.Done v = refl
-seen_back_lem (put.Refused r) v = ap put.Refused (refusal_back r)
-
-reader_same : (x y : Reader) → x.place ≡ y.place → seen_of x.answer x.value ≡ seen_of y.answer y.value → x.value ≡ y.value → x ≡ y
-reader_same x y e f g =
-    ap (λ (p : Place). record { answer = x.answer; place = p; value = x.value }) e
-    ∙ ap (λ (a : Put). record { answer = a; place = y.place; value = x.value })
-    (sym (seen_back_lem x.answer x.value) ∙ ap seen_back f ∙ seen_back_lem y.answer y.value)
-    ∙ ap (λ (v : ℕ). record { answer = y.answer; place = y.place; value = v }) g
-
--- a reader that has read nothing shows 0
-begun_value : (a : Put) (v : ℕ) → seen_of a v ≡ taken 0 → v ≡ 0
-begun_value put.Done v e = taken_same e
-begun_value (put.Refused r) v e = never e
-
-abbrev pub found_back : Outcome Element → Found
-found_back (taken e) = found.Is e
-found_back (refused g) = found.Refused (refusal_of g)
-
-pub found_back_lem : (f : Found) → found_back (found_of f) ≡ f
-found_back_lem (found.Is e) = refl
-found_back_lem (found.Refused r) = ap found.Refused (refusal_back r)
+-- an answer's meaning and its place lead back to it
+pub moved_same : {A : Type 0} (x y : Moved A) → outcome_of x.answer ≡ outcome_of y.answer → x.place ≡ y.place → x ≡ y
+moved_same x y e f = λ i. record { answer = answer_one x.answer y.answer e refl i; place = f i }
 
 -- any two results that a contract allows are equal; the contracts are read from the code
 pub role_word_one : Decides 0 role-word-kinds.ps role-word-kinds.r role-word-reads.Post
@@ -137,43 +88,41 @@ is_unsound_one κs a x y s t p q = p ∙ sym q
 pub passes_one : Decides 0 passes-kinds.ps passes-kinds.r passes-reads.Post
 passes_one κs a x y s t p q = p ∙ sym q
 
-pub read_element_one : (κs : Lfts 2) (a : Dens κs read-element-kinds.ps) (x y : Reading) (s t : AtExit (ended_of 2 read-element-kinds.ps read-element-kinds.r) κs)
+pub read_element_one : (κs : Lfts 2) (a : Dens κs read-element-kinds.ps) (x y : Moved ℕ) (s t : AtExit (ended_of 2 read-element-kinds.ps read-element-kinds.r) κs)
     → read-element-reads.Post κs a x s → read-element-reads.Post κs a y t → (x ≡ y) × (s.1.0.now ≡ t.1.0.now)
 read_element_one κs a x y s t p q =
     let e = p ∙ sym q in
-    (reading_same x y (ap (λ w. w.outcome) e) (ap (λ w. w.state.place) e), ap (λ w. w.state.log) e)
+    (moved_same x y (ap (λ w. w.outcome) e) (ap (λ w. w.state.place) e), ap (λ w. w.state.log) e)
 
 pub read_raw_one : Decides 1 read-raw-kinds.ps read-raw-kinds.r read-raw-reads.Post
-read_raw_one κs a x y s t p q = let e = p ∙ sym q in reading_same x y (ap (λ w. w.outcome) e) (ap (λ w. w.state) e)
+read_raw_one κs a x y s t p q = let e = p ∙ sym q in moved_same x y (ap (λ w. w.outcome) e) (ap (λ w. w.state) e)
 
-pub span_one : (κs : Lfts 2) (a : Dens κs span-kinds.ps) (x y : Moved) (s t : AtExit (ended_of 2 span-kinds.ps span-kinds.r) κs)
+pub span_one : (κs : Lfts 2) (a : Dens κs span-kinds.ps) (x y : Moved Unit) (s t : AtExit (ended_of 2 span-kinds.ps span-kinds.r) κs)
     → span-reads.Post κs a x s → span-reads.Post κs a y t → (x ≡ y) × (s.1.0.now ≡ t.1.0.now)
 span_one κs a x y s t p q =
     let e = p ∙ sym q in
     (moved_same x y (ap (λ w. w.outcome) e) (ap (λ w. w.state.place) e), ap (λ w. w.state.log) e)
 
-pub close_span_one : (κs : Lfts 2) (a : Dens κs close-span-kinds.ps) (x y : Moved) (s t : AtExit (ended_of 2 close-span-kinds.ps close-span-kinds.r) κs)
+pub close_span_one : (κs : Lfts 2) (a : Dens κs close-span-kinds.ps) (x y : Moved Unit) (s t : AtExit (ended_of 2 close-span-kinds.ps close-span-kinds.r) κs)
     → close-span-reads.Post κs a x s → close-span-reads.Post κs a y t → (x ≡ y) × (s.1.0.now ≡ t.1.0.now)
 close_span_one κs a x y s t p q =
     let e = p ∙ sym q in
     (moved_same x y (ap (λ w. w.outcome) e) (ap (λ w. w.state.place) e), ap (λ w. w.state.log) e)
 
 pub begin_one : Decides 0 begin-kinds.ps begin-kinds.r begin-reads.Post
-begin_one κs a x y s t p q =
-    reader_same x y (p.0 ∙ sym q.0) (p.1 ∙ sym q.1) (begun_value x.answer x.value p.1 ∙ sym (begun_value y.answer y.value q.1))
+begin_one κs a x y s t p q = p ∙ sym q
 
-pub next_one : (κs : Lfts 2) (a : Dens κs next-kinds.ps) (x y : Reader) (s t : AtExit (ended_of 2 next-kinds.ps next-kinds.r) κs)
+pub next_one : (κs : Lfts 2) (a : Dens κs next-kinds.ps) (x y : Moved ℕ) (s t : AtExit (ended_of 2 next-kinds.ps next-kinds.r) κs)
     → next-reads.Post κs a x s → next-reads.Post κs a y t → (x ≡ y) × (s.1.0.now ≡ t.1.0.now)
 next_one κs a x y s t p q =
-    let e = p.0 ∙ sym q.0 in
-    let f = ap (λ w. w.outcome) e in
-    (reader_same x y (ap (λ w. w.state.place) e) f (p.1 ∙ ap shown f ∙ sym q.1), ap (λ w. w.state.log) e)
+    let e = p ∙ sym q in
+    (moved_same x y (ap (λ w. w.outcome) e) (ap (λ w. w.state.place) e), ap (λ w. w.state.log) e)
 
 pub check_tiling_one : Decides 1 check-tiling-kinds.ps check-tiling-kinds.r check-tiling-reads.Post
-check_tiling_one κs a x y s t = one_answer done_of done_back done_back_lem x y
+check_tiling_one κs a x y s t = answer_one x y
 
 pub element_at_one : Decides 1 element-at-kinds.ps element-at-kinds.r element-at-reads.Post
-element_at_one κs a x y s t = one_answer found_of found_back found_back_lem x y
+element_at_one κs a x y s t = answer_one x y
 
 -- the same at a cursor, with the cursor at exit where it is lent
 module _ {M : Type 1} {𝓤 : Ura M} (𝓛 : Logic 𝓤) (mem : Memory → SProp 𝓤) (run : Routine → Fun 𝓤) where
@@ -187,14 +136,14 @@ module _ {M : Type 1} {𝓤 : Ura M} (𝓛 : Logic 𝓤) (mem : Memory → SProp
   read_next_one κs a g h x y s t =
       agree 𝓤 _ _ _ (λ p q.
       let e = p ∙ sym q in
-      (one_answer got_of got_back got_back_lem x y (ap (λ w. w.outcome) e) refl, ap (λ w. w.state.cursor) e, ap (λ w. w.state.log) e))
+      (answer_one x y (ap (λ w. w.outcome) e) refl, ap (λ w. w.state.cursor) e, ap (λ w. w.state.log) e))
 
   pub raw_next_one : Agree 𝓤 raw-next.ended (raw-next.clauses 𝓛 mem run) (λ κs x y s t. (x ≡ y) × (s.0.now ≡ t.0.now))
   raw_next_one κs a g h x y s t =
-      agree 𝓤 _ _ _ (λ p q. let e = p ∙ sym q in (one_answer got_of got_back got_back_lem x y (ap (λ w. w.outcome) e) refl, ap (λ w. w.state) e))
+      agree 𝓤 _ _ _ (λ p q. let e = p ∙ sym q in (answer_one x y (ap (λ w. w.outcome) e) refl, ap (λ w. w.state) e))
 
   pub close_next_one : Agree 𝓤 close-next.ended (close-next.clauses 𝓛 mem run) (λ κs x y s t. (x ≡ y) × (s.0.now ≡ t.0.now) × (s.1.0.now ≡ t.1.0.now))
   close_next_one κs a g h x y s t =
       agree 𝓤 _ _ _ (λ p q.
       let e = p ∙ sym q in
-      (one_answer done_of done_back done_back_lem x y (ap (λ w. w.outcome) e) refl, ap (λ w. w.state.cursor) e, ap (λ w. w.state.log) e))
+      (answer_one x y (ap (λ w. w.outcome) e) refl, ap (λ w. w.state.cursor) e, ap (λ w. w.state.log) e))

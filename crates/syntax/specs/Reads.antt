@@ -2,18 +2,13 @@
 -- 01's numbers and its order of tests.
 -- Assumes nothing.
 use Rattle.std.specs.Prelude.{ℕ, ◌+◌, ◌-◌, ◌*◌, ◌/◌, min, List, Bool, ◌||◌, length, ltb, eqb, negsuc}
-use Rattle.refusal.specs.Refusals.{Outcome, taken, refused, told, refuse_if, past_limit, and_then, Ran, settle, then_run}
-use Rattle.bits.specs.declared.Put.{Put}
-use Rattle.bits.specs.declared.Put.TheVariants as put
+use Rattle.refusal.specs.Refusals.{Outcome, taken, refuse_if, past_limit, and_then, Ran, ran_of, settle, then_run}
 use Rattle.bits.specs.Bits.{bits_at}
-use Rattle.bits.specs.Answers.{got_of, done_of}
 use Rattle.syntax.specs.declared.Role.{Role}
 use Rattle.syntax.specs.declared.Element.{Element}
 use Rattle.syntax.specs.declared.Place.{Place}
 use Rattle.syntax.specs.declared.Ask.{Ask}
-use Rattle.syntax.specs.declared.Reading.{Reading}
 use Rattle.syntax.specs.declared.Moved.{Moved}
-use Rattle.syntax.specs.declared.Reader.{Reader}
 use Rattle.syntax.specs.Elements.{written}
 
 -- what a reader leaves behind: the cursor's numbers, and the log
@@ -24,27 +19,12 @@ pub record Standing : Type 0 where
 abbrev pub standing : Place → List ℕ → Standing
 standing p log = record { place = p; log = log }
 
--- what each answer means, with the place and the log after it
-abbrev pub reading_of : Reading → List ℕ → Ran Standing ℕ
-reading_of r log = record { outcome = got_of r.answer; state = standing r.place log }
+-- what an answer means, with the place and the log after it; where no log is lent, with the place alone
+abbrev pub moved_of : {A : Type 0} → Moved A → List ℕ → Ran Standing A
+moved_of m log = ran_of m.answer (standing m.place log)
 
-abbrev pub raw_reading_of : Reading → Ran Place ℕ
-raw_reading_of r = record { outcome = got_of r.answer; state = r.place }
-
-abbrev pub moved_of : Moved → List ℕ → Ran Standing Unit
-moved_of r log = record { outcome = done_of r.answer; state = standing r.place log }
-
-abbrev pub seen_of : Put → ℕ → Outcome ℕ
-seen_of put.Done v = taken v
-seen_of (put.Refused r) v = told r
-
-abbrev pub reader_of : Reader → List ℕ → Ran Standing ℕ
-reader_of r log = record { outcome = seen_of r.answer r.value; state = standing r.place log }
-
--- the value that a reader shows: 0 where it is refused
-abbrev pub shown : Outcome ℕ → ℕ
-shown (taken v) = v
-shown (refused g) = 0
+abbrev pub bare_moved_of : {A : Type 0} → Moved A → Ran Place A
+bare_moved_of m = ran_of m.answer m.place
 
 -- "at most 4,096 elements of its room are used", eight words each
 abbrev pub room : ℕ → ℕ
@@ -90,13 +70,16 @@ read_of frame st a =
 abbrev pub ahead : Place → ℕ → Place
 ahead p n = record { pos = p.pos + n; limit = p.limit; block = p.block; count = p.count }
 
+-- the value of bits inside a span
+abbrev pub raw_value_at : List ℕ → Place → ℕ → Outcome ℕ
+raw_value_at frame p n =
+    refuse_if (unsound (length frame) p || ltb 32 n) 6 p.pos
+    (past_limit (p.pos + n) p.limit p.pos
+    (taken (bits_at frame p.pos n)))
+
 -- "Raw reads log nothing"
 unfoldable pub raw_of : List ℕ → Place → ℕ → Ran Place ℕ
-raw_of frame p n =
-    settle p (ahead p n)
-    (refuse_if (unsound (length frame) p || ltb 32 n) 6 p.pos
-    (past_limit (p.pos + n) p.limit p.pos
-    (taken (bits_at frame p.pos n))))
+raw_of frame p n = settle p (ahead p n) (raw_value_at frame p n)
 
 -- a span as an element that is asked for: it has no index
 abbrev pub span_ask : ℕ → Role → ℕ → Ask

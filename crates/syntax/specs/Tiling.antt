@@ -1,17 +1,10 @@
 -- Elements back out of a log, and when they tile the bits of a frame.
 -- There is no cursor here, so a refusal's bit is 0. Assumes nothing.
 use Rattle.std.specs.Prelude.{ℕ, zero, suc, ◌+◌, ◌*◌, ◌≤◌, ◌<◌, List, Bool, true, ◌&&◌, not, ◌≡◌, length, get_or, eqb, ltb, leb}
-use Rattle.refusal.specs.Refusals.{Outcome, taken, told, refuse_if}
+use Rattle.refusal.specs.Refusals.{Outcome, taken, refuse_if}
 use Rattle.syntax.specs.declared.Element.{Element}
-use Rattle.syntax.specs.declared.Found.{Found}
-use Rattle.syntax.specs.declared.Found.TheVariants as found
 use Rattle.syntax.specs.Elements.{decoded}
 use Rattle.syntax.specs.Reads.{Standing, room}
-
--- what looking up answers
-abbrev pub found_of : Found → Outcome Element
-found_of (found.Is e) = taken e
-found_of (found.Refused r) = told r
 
 -- element k of a log of count elements: 6 where the count passes the room, or k is not below the count
 unfoldable pub element_at : List ℕ → ℕ → ℕ → Outcome Element

@@ -1,11 +1,11 @@
 // The cursor as one value: it looks into the caller's bytes and never copies them. Whoever has plain slices and a place needs none
 // of these functions: each takes the cursor apart and calls the one on slice and place.
 ghost use Rattle.std.specs.Prelude.{◌≡◌};
-ghost use Rattle.bits.specs.Answers.{got_of, done_of};
+ghost use Rattle.refusal.specs.Refusals.{outcome_of};
 ghost use Rattle.syntax.specs.Cursors.{opened, held_of, read_at, raw_held_of, raw_at, close_at};
 
 use crate::{Ask, Place, Role};
-use bits::{Got, Put};
+use refusal::Refusal;
 
 // The bytes that are read, and the place in them.
 #[derive(Clone, Copy)]
@@ -15,7 +15,7 @@ pub struct Cursor<'a> {
 }
 
 // A cursor at bit 0, in no block, with nothing logged.
-pub fn open<'a>(bytes: &'a [u8], limit: usize) -> Cursor<'a>
+pub fn open(bytes: &[u8], limit: usize) -> Cursor<'_>
     ensures { result ≡ opened bytes.entry limit }
 {
     Cursor {
@@ -30,15 +30,17 @@ pub fn open<'a>(bytes: &'a [u8], limit: usize) -> Cursor<'a>
 }
 
 // The bit at which a cursor stands.
-pub fn position<'a>(c: Cursor<'a>) -> usize
+pub fn position(c: Cursor<'_>) -> usize
     ensures { result ≡ c.entry.place.pos }
 {
     c.place.pos
 }
 
-// Reads one element and logs it, and moves the cursor on: 6, then 1, then 19.
-pub fn read_next<'s, 'a, 'l>(c: &'s mut Cursor<'a>, log: &'l mut [u32], ask: Ask) -> Got
-    ensures { held_of (got_of result) c.new log.new ≡ read_at c.old log.old ask }
+// Reads one element and logs it, and moves the cursor on: 6, then 1, then 19. It is inlined, and what it calls: as a call it drags the place
+// through memory, padding and all, and a set of exponents takes three times as long.
+#[inline(always)]
+pub fn read_next(c: &mut Cursor<'_>, log: &mut [u32], ask: Ask) -> Result<u32, Refusal>
+    ensures { held_of (outcome_of result) c.new log.new ≡ read_at c.old log.old ask }
 {
     let read = crate::read_element(c.bytes, log, c.place, ask);
     c.place = read.place;
@@ -46,8 +48,8 @@ pub fn read_next<'s, 'a, 'l>(c: &'s mut Cursor<'a>, log: &'l mut [u32], ask: Ask
 }
 
 // Reads bits inside a span, which logs nothing, and moves the cursor on: 6, then 1.
-pub fn raw_next<'s, 'a>(c: &'s mut Cursor<'a>, width: usize) -> Got
-    ensures { raw_held_of (got_of result) c.new ≡ raw_at c.old width }
+pub fn raw_next(c: &mut Cursor<'_>, width: usize) -> Result<u32, Refusal>
+    ensures { raw_held_of (outcome_of result) c.new ≡ raw_at c.old width }
 {
     let read = crate::read_raw(c.bytes, c.place, width);
     c.place = read.place;
@@ -55,14 +57,14 @@ pub fn raw_next<'s, 'a>(c: &'s mut Cursor<'a>, width: usize) -> Got
 }
 
 // Logs the bits from start to the cursor, which stays, as one element: 6, then 19.
-pub fn close_next<'s, 'a, 'l>(
-    c: &'s mut Cursor<'a>,
-    log: &'l mut [u32],
+pub fn close_next(
+    c: &mut Cursor<'_>,
+    log: &mut [u32],
     name: u32,
     role: Role,
     start: usize,
-) -> Put
-    ensures { held_of (done_of result) c.new log.new ≡ close_at c.old log.old name role start }
+) -> Result<(), Refusal>
+    ensures { held_of (outcome_of result) c.new log.new ≡ close_at c.old log.old name role start }
 {
     let moved = crate::close_span(c.bytes, log, c.place, name, role, start);
     c.place = moved.place;

@@ -1,19 +1,21 @@
 -- What a code gives: nothing past its table's end, and a value in the table's range.
 -- Assumes nothing.
-use Prim.Native.Nat.{ℕ, ◌≤◌, ◌+◌, suc, zero}
-use mathlib.Core.Path.{◌≡◌, subst, refl}
+use Prim.Native.Nat.{ℕ, ◌<◌, ◌≤◌, suc, zero}
+use mathlib.Core.Path.{◌≡◌, ◌∙◌, subst, sym, ap, refl}
 use mathlib.Core.List.{List, [], ◌∷◌}
 use native.Mathlib.Omega.{arith}
-use lib.ListN.{length}
+use lib.ListN.{length, get_or}
 use lib.IntN.{ℤ, pos, ◌+ℤ◌, ◌-ℤ◌, ◌*ℤ◌}
 use mathlib.Core.Bool.{Bool, true}
-use mathlib.Core.Logic.{◌≢◌}
 use lib.Dec.{leb, ltb, T, leb→le}
-use borrow.Author.Tests.{ltb-false}
+use borrow.Author.Tests.{ltb-true, ltb-false}
 use Rattle.refusal.specs.Refusals.{taken, refused, grounds, refuse_if}
 use Rattle.refusal.proofs.Laws.{never, taken_same, past_refuse_if}
 use Rattle.tables.specs.Numbers.{up, dn, Within}
-use Rattle.tables.specs.Codes.{code_at, fast_gain, leak_of, snr_offset, fine_of, snr_of}
+use Rattle.std.specs.Prelude.{Option, Some, None}
+use Rattle.std.specs.Option.{is_some, option_copied, IfSome}
+use denote.Bor.{Bor}
+use Rattle.tables.specs.Codes.{coded_of, code_at, fast_gain, leak_of, snr_offset, fine_of, snr_of}
 use Rattle.tables.proofs.Signed.{parts, min_law, add_law, mul_law}
 use Rattle.tables.proofs.BandLaws.{both, both_left, both_right}
 
@@ -23,8 +25,17 @@ past [] n h = refl
 past (z ∷ zs) zero h = absurd (omega arith)
 past (z ∷ zs) (suc n) h = past zs n (omega arith)
 
-pub ge4 : (n k : ℕ) → k ≤ n → n ≢ k → n ≢ k + 1 → n ≢ k + 2 → n ≢ k + 3 → k + 4 ≤ n
-ge4 n k h a b c d = omega arith
+within : (l : List ℤ) (n : ℕ) (d : ℤ) → n < length l → taken (get_or l n d) ≡ code_at l n
+unfolding code_at
+within [] n d h = absurd (omega arith)
+within (z ∷ zs) zero d h = refl
+within (z ∷ zs) (suc n) d h = within zs n d (omega arith)
+
+-- what a slice has at a code's place is the code's value
+pub code_got : (l : List ℤ) (n : ℕ) (r : Option (Bor ℤ)) → is_some r ≡ ltb n (length l) → IfSome r (λ x. x.now ≡ get_or l n x.now)
+    → coded_of (option_copied r) ≡ code_at l n
+code_got l n None s v = past l n (ltb-false n (length l) (sym s))
+code_got l n (Some x) s v = ap taken v ∙ within l n x.now (ltb-true n (length l) (sym s))
 
 -- every value of a table lies in a range, which antt computes; so does what a code gives
 abbrev pub all_in : ℕ → ℕ → List ℤ → Bool

@@ -1,12 +1,10 @@
 -- For each public function, any two results that its contract allows are equal.
 -- Assumes nothing.
 use mathlib.Core.Path.{◌≡◌, refl, sym, ◌∙◌}
-use lib.IntN.{ℤ}
 use Rattle.refusal.specs.Refusals.{Outcome, taken, refused}
 use Rattle.refusal.proofs.Unique.{one_answer}
 use Rattle.refusal.proofs.Decides.{Decides}
-use Rattle.tables.specs.declared.Coded.{Coded}
-use Rattle.tables.specs.declared.Coded.TheVariants as coded
+use Rattle.std.specs.Prelude.{Option, Some, None}
 use Rattle.tables.specs.Codes.{coded_of}
 use Rattle.tables.proofs.slow_decay.Kinds as slow-decay-kinds
 use Rattle.tables.proofs.slow_decay.Reads as slow-decay-reads
@@ -40,13 +38,13 @@ use Rattle.tables.proofs.delta_fits.Kinds as delta-fits-kinds
 use Rattle.tables.proofs.delta_fits.Reads as delta-fits-reads
 
 -- a code's meaning leads back to the answer
-abbrev pub coded_back : Outcome ℤ → Coded
-coded_back (taken z) = coded.Value z
-coded_back (refused g) = coded.Past
+abbrev pub coded_back : {A : Type 0} → Outcome A → Option A
+coded_back (taken a) = Some a
+coded_back (refused g) = None
 
-pub coded_back_lem : (c : Coded) → coded_back (coded_of c) ≡ c
-coded_back_lem (coded.Value z) = refl
-coded_back_lem coded.Past = refl
+pub coded_back_lem : {A : Type 0} (c : Option A) → coded_back (coded_of c) ≡ c
+coded_back_lem (Some a) = refl
+coded_back_lem None = refl
 
 pub slow_decay_one : Decides 0 slow-decay-kinds.ps slow-decay-kinds.r slow-decay-reads.Post
 slow_decay_one κs a x y s t = one_answer coded_of coded_back coded_back_lem x y

@@ -1,9 +1,7 @@
 -- TS 6.2.2.1: the values of the side information's codes. A code past its table is refused with 11 (document 01, "Refusal numbers").
 -- Assumes nothing.
-use Rattle.std.specs.Prelude.{ℕ, ◌+◌, ◌*◌, suc, zero, List, [], ◌∷◌, ℤ, pos, negsuc, ◌+ℤ◌, ◌-ℤ◌, ◌*ℤ◌, ltb}
+use Rattle.std.specs.Prelude.{ℕ, ◌+◌, ◌*◌, suc, zero, List, [], ◌∷◌, ℤ, pos, negsuc, ◌+ℤ◌, ◌-ℤ◌, ◌*ℤ◌, ltb, Option, Some, None}
 use Rattle.refusal.specs.Refusals.{Outcome, taken, refused, grounds, refuse_if}
-use Rattle.tables.specs.declared.Coded.{Coded}
-use Rattle.tables.specs.declared.Coded.TheVariants as coded
 
 -- the value of a code, or that it is past its table
 unfoldable pub code_at : List ℤ → ℕ → Outcome ℤ
@@ -51,7 +49,7 @@ fine_of csnr fsnr = refuse_if (ltb 15 fsnr) 11 0 (taken (snr_offset csnr fsnr))
 unfoldable pub snr_of : ℕ → ℕ → Outcome ℤ
 snr_of csnr fsnr = refuse_if (ltb 63 csnr) 11 0 (fine_of csnr fsnr)
 
--- what an answer means
-abbrev pub coded_of : Coded → Outcome ℤ
-coded_of (coded.Value z) = taken z
-coded_of coded.Past = refused (grounds 11 0)
+-- what is decoded of codes: a value, or that a code is past its table
+abbrev pub coded_of : {A : Type 0} → Option A → Outcome A
+coded_of (Some a) = taken a
+coded_of None = refused (grounds 11 0)

@@ -2,7 +2,9 @@
 // information's codes mean, which bins a band has, the pointers by address, and whether lent tables and delta segments are fit.
 #![tactic(auto)]
 
-ghost use Rattle.std.specs.Prelude.{◌≡◌, ◌≤◌, ◌-◌, min, ◌&&◌, leb, length};
+ghost use Rattle.std.specs.Prelude.{◌≡◌, ◌≤◌, ◌+◌, ◌-◌, ◌*◌, ltb, eqb, pos, length, fold, true, ◌&&◌};
+ghost use Rattle.std.specs.Ordering.{partial_le};
+ghost use Rattle.refusal.specs.Refusals.{refuse_if, taken};
 ghost use Rattle.tables.specs.Bands.{band_start, band_of};
 ghost use Rattle.tables.specs.Codes.{code_at, slow_decay, fast_decay, slow_gain, knee_table, floor_table, fast_gain, leak_of, snr_offset, fine_of, snr_of, coded_of};
 ghost use Rattle.tables.specs.Pointers.{pointers_by, table_of};
@@ -23,7 +25,8 @@ pub const CPL: usize = 5;
 
 pub const LFE: usize = 6;
 
-// The delta segments, deltoffst, deltlen and deltba: the first `count` of each array.
+// The delta segments, deltoffst, deltlen and deltba: the first `count` of each array. C's rows of state have the three one after another,
+// and the theorems of `blocks` and `capi` are over the three lists; a list of segments would be read and written by hand there.
 #[derive(Clone, Copy)]
 pub struct Delta {
     pub count: u8,
@@ -39,141 +42,99 @@ pub enum Pointers {
     Hebap,
 }
 
-// A code's value, or that the code is past its table.
-#[derive(Clone, Copy)]
-pub enum Coded {
-    Value(i32),
-    Past,
+// The code's value in its table, or nothing where the code is past the table.
+fn coded<const N: usize>(table: &[i32; N], code: u8) -> Option<i32>
+    ensures { coded_of result ≡ code_at table.now code }
+{
+    table.get(code as usize).copied()
 }
 
+static SLOW_DECAY: [i32; 4] = [15, 17, 19, 21];
+
+static FAST_DECAY: [i32; 4] = [63, 83, 103, 123];
+
+static SLOW_GAIN: [i32; 4] = [0x540, 0x4D8, 0x478, 0x410];
+
+static KNEE: [i32; 4] = [0, 0x700, 0x900, 0xB00];
+
+// The last is the word 0xF800, signed.
+static FLOOR: [i32; 8] = [0x2F0, 0x2B0, 0x270, 0x230, 0x1F0, 0x170, 0x0F0, -2048];
+
 // 6.2.2.1: the slow decay, by sdcycod.
-pub fn slow_decay(code: u8) -> Coded
+pub fn slow_decay(code: u8) -> Option<i32>
     ensures { coded_of result ≡ code_at slow_decay code }
 {
-    match code {
-        0 => Coded::Value(15),
-        1 => Coded::Value(17),
-        2 => Coded::Value(19),
-        3 => Coded::Value(21),
-        _ => Coded::Past,
-    }
+    coded(&SLOW_DECAY, code)
 }
 
 // The fast decay, by fdcycod.
-pub fn fast_decay(code: u8) -> Coded
+pub fn fast_decay(code: u8) -> Option<i32>
     ensures { coded_of result ≡ code_at fast_decay code }
 {
-    match code {
-        0 => Coded::Value(63),
-        1 => Coded::Value(83),
-        2 => Coded::Value(103),
-        3 => Coded::Value(123),
-        _ => Coded::Past,
-    }
+    coded(&FAST_DECAY, code)
 }
 
 // The slow gain, by sgaincod.
-pub fn slow_gain(code: u8) -> Coded
+pub fn slow_gain(code: u8) -> Option<i32>
     ensures { coded_of result ≡ code_at slow_gain code }
 {
-    match code {
-        0 => Coded::Value(0x540),
-        1 => Coded::Value(0x4D8),
-        2 => Coded::Value(0x478),
-        3 => Coded::Value(0x410),
-        _ => Coded::Past,
-    }
+    coded(&SLOW_GAIN, code)
 }
 
 // The knee, by dbpbcod.
-pub fn knee_of(code: u8) -> Coded
+pub fn knee_of(code: u8) -> Option<i32>
     ensures { coded_of result ≡ code_at knee_table code }
 {
-    match code {
-        0 => Coded::Value(0),
-        1 => Coded::Value(0x700),
-        2 => Coded::Value(0x900),
-        3 => Coded::Value(0xB00),
-        _ => Coded::Past,
-    }
+    coded(&KNEE, code)
 }
 
-// The floor, by floorcod. The last is the word 0xF800, signed.
-pub fn floor_of(code: u8) -> Coded
+// The floor, by floorcod.
+pub fn floor_of(code: u8) -> Option<i32>
     ensures { coded_of result ≡ code_at floor_table code }
 {
+    coded(&FLOOR, code)
+}
+
+// The code's value among eight in even steps, or nothing where the code is past them.
+fn stepped(code: u8, first: u16, step: u16) -> Option<i32>
+    requires { (first ≤ 1024) × (step ≤ 1024) }
+    ensures { coded_of result ≡ refuse_if (ltb 7 code) 11 0 (taken (pos (step * code + first))) }
+{
     match code {
-        0 => Coded::Value(0x2F0),
-        1 => Coded::Value(0x2B0),
-        2 => Coded::Value(0x270),
-        3 => Coded::Value(0x230),
-        4 => Coded::Value(0x1F0),
-        5 => Coded::Value(0x170),
-        6 => Coded::Value(0x0F0),
-        7 => Coded::Value(-2048),
-        _ => Coded::Past,
+        0..=7 => Some((step * code as u16 + first) as i32),
+        _ => None,
     }
 }
 
 // The fast gain, by fgaincod.
-pub fn fast_gain(code: u8) -> Coded
+#[tactic(auto, unfolding(crate::specs::Codes::fast_gain))]
+pub fn fast_gain(code: u8) -> Option<i32>
     ensures { coded_of result ≡ fast_gain code }
 {
-    match code {
-        0..=7 => {
-            let n = 128 * ((code as i32) + 1);
-            Coded::Value(n)
-        }
-        _ => Coded::Past,
-    }
+    stepped(code, 128, 128)
 }
 
 // A leak of the coupling channel, by cplfleak or cplsleak.
-pub fn leak_of(code: u8) -> Coded
+#[tactic(auto, unfolding(crate::specs::Codes::leak_of))]
+pub fn leak_of(code: u8) -> Option<i32>
     ensures { coded_of result ≡ leak_of code }
 {
-    match code {
-        0..=7 => {
-            let n = 256 * (code as i32) + 768;
-            Coded::Value(n)
-        }
-        _ => Coded::Past,
-    }
+    stepped(code, 768, 256)
 }
 
-// The SNR offset, by csnroffst and fsnroffst: down to -960.
-fn snr_offset(csnr: u8, fsnr: u8) -> i32
-    requires { (csnr ≤ 63) × (fsnr ≤ 15) }
-    ensures { result ≡ snr_offset csnr fsnr }
-{
-    4 * (16 * ((csnr as i32) - 15) + (fsnr as i32))
-}
-
-// The SNR offset of a csnroffst in its table.
-fn fine_of(csnr: u8, fsnr: u8) -> Coded
-    requires { csnr ≤ 63 }
-    ensures { coded_of result ≡ fine_of csnr fsnr }
-{
-    match fsnr {
-        0..=15 => {
-            let n = snr_offset(csnr, fsnr);
-            Coded::Value(n)
-        }
-        _ => Coded::Past,
-    }
-}
-
-// The SNR offset, or that a code is past its table.
-pub fn snr_of(csnr: u8, fsnr: u8) -> Coded
+// The SNR offset, by csnroffst and fsnroffst: down to -960. Nothing where one of them is past its table.
+#[tactic(auto, unfolding(crate::specs::Codes::snr_of, crate::specs::Codes::fine_of))]
+pub fn snr_of(csnr: u8, fsnr: u8) -> Option<i32>
     ensures { coded_of result ≡ snr_of csnr fsnr }
 {
-    match csnr {
-        0..=63 => fine_of(csnr, fsnr),
-        _ => Coded::Past,
+    match (csnr, fsnr) {
+        (0..=63, 0..=15) => Some(4 * (16 * (csnr as i32 - 15) + fsnr as i32)),
+        _ => None,
     }
 }
 
 // The first bin of a band. Where there is no such band, the end of the last.
+// No Option here and in `band_of`: both take any number, as their definitions and docs/DECISIONS.md say.
 pub fn start_of(k: Band) -> Bin
     ensures { result.0 ≡ band_start k.0 }
 {
@@ -218,13 +179,12 @@ const HEBAP: [u8; 64] = [
 ];
 
 // Which pointers a flag asks for: hebap where it is set.
+// C's flag: a From<bool> beside it would be a second spelling of what docs/PROMISES.md names.
+#[tactic(auto, unfolding(crate::specs::Pointers::pointers_by))]
 pub fn pointers_by(high: bool) -> Pointers
     ensures { result ≡ pointers_by high }
 {
-    if high {
-        return Pointers::Hebap;
-    }
-    Pointers::Bap
+    if high { Pointers::Hebap } else { Pointers::Bap }
 }
 
 // The pointers by address.
@@ -237,97 +197,44 @@ pub fn table_of(which: Pointers) -> [u8; 64]
     }
 }
 
-// The smaller of two.
-fn sooner(a: usize, b: usize) -> usize
-    ensures { result ≡ min a b }
+// Whether the numbers are at most the top. It looks at each, and so at many at a time; a chain that ends at the first one above the top
+// looks at one at a time.
+fn all_at_most<T: Copy + PartialOrd>(s: &[T], top: T) -> bool
+    ensures { result ≡ fold (λ ok e. ok && partial_le T.partial_cmp e top) true s.now }
 {
-    if a < b { a } else { b }
-}
-
-// Whether the numbers so far were at most the top, and this one is.
-fn still(ok: bool, e: usize, top: usize) -> bool
-    ensures { result ≡ (ok && leb e top) }
-{
-    if ok {
-        return e <= top;
-    }
-    false
+    s.iter().fold(true, |ok, e| ok & (*e <= top))
 }
 
 // Whether the numbers from start to end are at most the top, those of them that there are.
+// The range stands beside the numbers, since it may end past them.
 pub fn all_upto(s: &[u8], start: usize, end: usize, top: usize) -> bool
     ensures { result ≡ upto top s.now start (end - start) }
 {
-    let stop = sooner(end, s.len());
-    let mut i = start;
-    let mut ok = true;
-    while i < stop {
-        ok = still(ok, s[i] as usize, top);
-        i += 1;
-    }
-    ok
+    let stop = end.min(s.len());
+    all_at_most(&s[start.min(stop)..stop], top.min(255) as u8)
 }
 
-// Whether a lent LOG_ADD is fit.
-fn log_add_fits(s: &[u8]) -> bool
-    ensures { result ≡ lent_fits 256 64 s.now }
+// Whether a lent table has n entries, each at most the top.
+fn lent_fits<T: Copy + PartialOrd>(s: &[T], n: usize, top: T) -> bool
+    ensures { result ≡ (eqb (length s.now) n && fold (λ ok e. ok && partial_le T.partial_cmp e top) true s.now) }
 {
-    if s.len() != 256 {
-        return false;
-    }
-    all_upto(s, 0, 256, 64)
-}
-
-// Whether the 150 numbers of a lent HEARING are at most 4095.
-fn heard_upto(s: &[u16]) -> bool
-    requires { length s.now ≡ 150 }
-    ensures { result ≡ upto 4095 s.now 0 150 }
-{
-    let mut i: usize = 0;
-    let mut ok = true;
-    while i < 150 {
-        ok = still(ok, s[i] as usize, 4095);
-        i += 1;
-    }
-    ok
-}
-
-// Whether a lent HEARING is fit.
-fn hearing_fits(s: &[u16]) -> bool
-    ensures { result ≡ lent_fits 150 4095 s.now }
-{
-    if s.len() != 150 {
-        return false;
-    }
-    heard_upto(s)
+    s.len() == n && all_at_most(s, top)
 }
 
 // Whether both lent tables are fit.
 pub fn tables_fit(hearing: &[u16], latab: &[u8]) -> bool
     ensures { result ≡ tables_fit hearing.now latab.now }
 {
-    if hearing_fits(hearing) {
-        return log_add_fits(latab);
-    }
-    false
+    lent_fits(hearing, 150, 4095) && lent_fits(latab, 256, 64)
 }
 
 // Whether there are at most 8 segments, and none has a code past its table.
 pub fn delta_fits(d: Delta) -> bool
     ensures { result ≡ delta_fits d }
 {
-    if d.count > 8 {
-        return false;
-    }
     let n = d.count as usize;
-    let offs = d.offset;
-    if !all_upto(&offs, 0, n, 31) {
-        return false;
-    }
-    let lens = d.len;
-    if !all_upto(&lens, 0, n, 15) {
-        return false;
-    }
-    let bas = d.ba;
-    all_upto(&bas, 0, n, 7)
+    n <= 8
+        && all_upto(&d.offset, 0, n, 31)
+        && all_upto(&d.len, 0, n, 15)
+        && all_upto(&d.ba, 0, n, 7)
 }

@@ -1,7 +1,7 @@
 -- Laws of the walk: what each case of a mantissa comes to, that a refused walk stays, one turn of the loop over the bins, and what the
 -- tests of the arguments say.
 -- Assumes nothing.
-use Prim.Native.Nat.{ℕ, ◌+◌, ◌%◌, ◌≤◌, ◌<◌}
+use Prim.Native.Nat.{ℕ, ◌+◌, ◌-◌, ◌%◌, ◌≤◌, ◌<◌}
 use mathlib.Core.Path.{◌≡◌, refl, sym, ◌∙◌, ap}
 use mathlib.Core.Bool.{Bool, true, false, cond}
 use mathlib.Core.List.{List, [], ◌∷◌}
@@ -9,13 +9,13 @@ use native.Mathlib.Omega.{arith}
 use native.Mathlib.Nat.{add-zero}
 use native.Mathlib.Numerals.{add-one}
 use lib.Dec.{eqb, ltb}
-use lib.ListN.{length, get_or}
-use lib.Seq.{slice, slice-cons, slice_empty}
-use borrow.Author.Tests.{ltb-false, lt-ltb, le-ltb, ne_eqb}
-use Rattle.refusal.specs.Refusals.{Grounds, Outcome, taken, refused, refuse_if, Ran, settle, then_run}
+use lib.ListN.{length, get_or, drop, drop_of_length-le}
+use lib.Seq.{slice, drop-cons}
+use borrow.Author.Tests.{ltb-false, lt-ltb, le-ltb, eqb-false, ne_eqb}
+use Rattle.refusal.specs.Refusals.{Grounds, Outcome, taken, refused, refuse_if, past_limit, Ran, settle, then_run}
 use Rattle.refusal.proofs.Laws.{run_stays}
 use Rattle.syntax.specs.declared.Place.{Place}
-use Rattle.syntax.specs.Reads.{unsound, ahead}
+use Rattle.syntax.specs.Reads.{ahead}
 use Rattle.refusal.proofs.TestLaws.{or_false}
 use Rattle.walks.specs.declared.Groups.{Groups}
 use Rattle.walks.specs.Walk.{State, state, going, stopped, width, cost, counted, passing, moving_of, mantissa_of, walk_codes, unfit_range, unfit_walk, walk_of, Reachable}
@@ -32,22 +32,19 @@ module _ (b : ℕ) (p : Place) (g : Groups) where
   mantissa_none z = rw (z, add-zero)
 
   module _ (n : ℕ) (h : Groups) (low : b ≤ 15) (c : n ≡ cost g b) (e : h ≡ counted g b) where
-    pub mantissa_free : n ≡ 0 → going (state p h) ≡ mantissa_of b (state p g)
+    -- more bits than there are up to the limit, which are none past it
+    pub mantissa_past : p.limit - p.pos < n → stopped 1 (state p h) ≡ mantissa_of b (state p g)
     unfolding mantissa_of
-    mantissa_free z = rw (le-ltb 15 b low, ← c, ← e, z, add-zero)
+    mantissa_past l = rw (le-ltb 15 b low, ← c, ← e, ne_eqb n 0 (λ z. omega (arith, z, l)), lt-ltb p.limit (p.pos + n) (omega arith))
 
-    pub mantissa_past : (n ≡ 0 → ⊥) → ltb p.limit (p.pos + n) ≡ true → stopped 1 (state p h) ≡ mantissa_of b (state p g)
+    pub mantissa_on_lem : n ≤ p.limit - p.pos → going (state (ahead p n) h) ≡ mantissa_of b (state p g)
     unfolding mantissa_of
-    mantissa_past z t = rw (le-ltb 15 b low, ← c, ← e, ne_eqb n 0 z, t)
-
-    pub mantissa_on_lem : ltb p.limit (p.pos + n) ≡ false → going (state (ahead p n) h) ≡ mantissa_of b (state p g)
-    unfolding mantissa_of
-    mantissa_on_lem t = rw (le-ltb 15 b low, ← c, ← e, t) (go (eqb n 0))
+    mantissa_on_lem l = rw (le-ltb 15 b low, ← c, ← e) (go (eqb n 0) refl)
       where
-        go : (u : Bool)
-            → going (state (ahead p n) h) ≡ settle (state p h) (state (ahead p n) h) (cond u (taken tt) (taken tt))
-        go true = refl
-        go false = refl
+        go : (u : Bool) → eqb n 0 ≡ u
+            → going (state (ahead p n) h) ≡ settle (state p h) (state (ahead p n) h) (cond u (taken tt) (past_limit (p.pos + n) p.limit p.pos (taken tt)))
+        go true z = refl
+        go false z = rw (le-ltb p.limit (p.pos + n) (let y = eqb-false n 0 z in omega arith))
 
 -- how many members groups that a walk can leave have at most
 pub groups_say : (g : Groups) → Reachable g → (g.g1 ≤ 2) × (g.g2 ≤ 2) × (g.g4 ≤ 1)
@@ -95,33 +92,29 @@ mantissa_either b s P h i j = counts (refuse_if (ltb 15 b) 13 s.place.pos (taken
     counts (taken u) = moves (passing s.place (cost s.groups b))
     counts (refused k) = h
 
-pub mantissa_reachable : (b : ℕ) (s : State) → Reachable s.groups → Reachable (mantissa_of b s).state.groups
-mantissa_reachable b s h =
-    let r = counted_reachable b s.groups h in mantissa_either b s (λ t. Reachable t.groups) h r r
-
 -- a refused walk stays as it is
 pub walk_stays : (bs : List ℕ) (r : Ran State Unit) {g : Grounds} → r.outcome ≡ refused g → walk_codes bs r ≡ r
 unfolding walk_codes
 walk_stays [] r e = refl
 walk_stays (b ∷ bs) r e = ap (walk_codes bs) (sym (run_stays (λ _ s. mantissa_of b s) refl e)) ∙ walk_stays bs r e
 
--- one turn: w is what the mantissa of bin i comes to
-module _ (bap : List ℕ) (i end : ℕ) (s : State) (r : Ran State Unit) (below : i < end) (within : end ≤ length bap) (is : r ≡ mantissa_of (get_or bap i 0) s) where
-  walk_one : walk_codes (slice i end bap) (going s) ≡ walk_codes (slice (i + 1) end bap) r
+-- one turn: r is what the mantissa of bin i comes to
+module _ (bap : List ℕ) (i : ℕ) (s : State) (r : Ran State Unit) (below : i < length bap) (is : r ≡ mantissa_of (get_or bap i 0) s) where
+  walk_one : walk_codes (drop i bap) (going s) ≡ walk_codes (drop (i + 1) bap) r
   unfolding walk_codes
-  walk_one = rw (add-one, slice-cons i end bap 0 below within, is)
+  walk_one = rw (add-one, drop-cons bap i 0, is)
 
   -- it goes on
-  pub walk_on_lem : r.outcome ≡ taken tt → walk_codes (slice (i + 1) end bap) (going r.state) ≡ walk_codes (slice i end bap) (going s)
-  walk_on_lem e = sym (walk_one ∙ ap (λ o. walk_codes (slice (i + 1) end bap) (record { outcome = o; state = r.state })) e)
+  pub walk_on_lem : r.outcome ≡ taken tt → walk_codes (drop (i + 1) bap) (going r.state) ≡ walk_codes (drop i bap) (going s)
+  walk_on_lem e = sym (walk_one ∙ ap (λ o. walk_codes (drop (i + 1) bap) (record { outcome = o; state = r.state })) e)
 
   -- or it ends here
-  pub walk_ends : {g : Grounds} → r.outcome ≡ refused g → r ≡ walk_codes (slice i end bap) (going s)
-  walk_ends e = sym (walk_one ∙ walk_stays (slice (i + 1) end bap) r e)
+  pub walk_ends : {g : Grounds} → r.outcome ≡ refused g → r ≡ walk_codes (drop i bap) (going s)
+  walk_ends e = sym (walk_one ∙ walk_stays (drop (i + 1) bap) r e)
 
-pub walk_empty : (bap : List ℕ) (i end : ℕ) (r : Ran State Unit) → i ≡ end → walk_codes (slice i end bap) r ≡ r
+pub walk_empty : (bap : List ℕ) (i : ℕ) (r : Ran State Unit) → length bap ≤ i → walk_codes (drop i bap) r ≡ r
 unfolding walk_codes
-walk_empty bap i end r e = rw (e, slice_empty end bap)
+walk_empty bap i r h = rw (drop_of_length-le bap h)
 
 -- what tests that don't hold say
 pub range_says : (start end : ℕ) → unfit_range start end ≡ false → (start ≤ end) × (end ≤ 256)
@@ -129,13 +122,6 @@ range_says start end e =
     let t = or_false (ltb end start) _ e in (ltb-false end start t.0, ltb-false 256 end t.1)
 
 module _ (frame : List ℕ) (p : Place) (bap : List ℕ) (start end : ℕ) (g : Groups) where
-  pub walk_says : unfit_walk (length frame) p start end g ≡ false → (start ≤ end) × (end ≤ 256) × Reachable g
-  walk_says e =
-      let t = or_false (unsound (length frame) p) _ e in
-      let u = or_false (unfit_range start end) _ t.1 in
-      let r = range_says start end u.0 in
-      (r.0, r.1, u.1)
-
   -- the two ways of a walk
   pub walk_unfit : unfit_walk (length frame) p start end g ≡ true → stopped 6 (state p g) ≡ walk_of frame p bap start end g
   unfolding walk_of

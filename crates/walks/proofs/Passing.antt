@@ -11,7 +11,7 @@ use native.Mathlib.Decide.{dec_le}
 use lib.Dec.{eqb}
 use lib.ListN.{length}
 use lib.Seq.{slice}
-use borrow.Author.Tests.{le-ltb, lt-ltb}
+use borrow.Author.Tests.{le-ltb}
 use Rattle.refusal.specs.Refusals.{Outcome, taken, refused, refuse_if, Ran, settle, follow}
 use Rattle.refusal.proofs.Laws.{never}
 use Rattle.syntax.specs.declared.Place.{Place}
@@ -38,7 +38,7 @@ module _ (b : ℕ) (p : Place) (g : Groups) (low : b ≤ 15) where
 
   mantissa_stops : p.pos ≤ p.limit → p.limit < p.pos + cost g b → mantissa_of b (state p g) ≡ stopped 1 (state p (counted g b))
   mantissa_stops h l =
-      sym (mantissa_past b p g (cost g b) (counted g b) low refl refl (λ z. omega arith) (lt-ltb p.limit (p.pos + cost g b) l))
+      sym (mantissa_past b p g (cost g b) (counted g b) low refl refl (omega arith))
 
 pub walk_passes : (bs : List ℕ) (p : Place) (g : Groups) → Codes bs → p.pos + costs bs g ≤ p.limit
     → walk_codes bs (going (state p g)) ≡ going (state (ahead p (costs bs g)) (after bs g))

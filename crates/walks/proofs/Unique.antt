@@ -1,17 +1,17 @@
 -- For each public function, any two results that its contract allows are equal, with the cursor at exit where it is lent.
 -- Assumes nothing.
 use mathlib.Core.Path.{◌≡◌, ap, sym, ◌∙◌}
+use Rattle.std.specs.Prelude.{Result}
 use seplogic.Ra.Ura.{Ura}
 use base.Logic.{SProp}
 use prog.Memory.{Memory}
 use prog.Routine.{Routine}
 use types.Logic.{Logic}
 use contract.Monad.{Fun}
+use Rattle.refusal.specs.declared.Refusal.{Refusal}
 use Rattle.refusal.specs.Refusals.{Ran}
-use Rattle.refusal.proofs.Unique.{one_answer}
+use Rattle.refusal.proofs.Unique.{answer_of, answer_back, one_answer}
 use Rattle.refusal.proofs.Decides.{Decides}
-use Rattle.bits.specs.declared.Put.{Put}
-use Rattle.bits.proofs.Unique.{done_back, done_back_lem}
 use Rattle.syntax.specs.Cursors.{moved}
 use Rattle.syntax.proofs.Agree.{Agree, agree}
 use Rattle.walks.specs.declared.Walked.{Walked}
@@ -24,10 +24,10 @@ use Rattle.walks.specs.contracts.conventional_at as conventional-at
 
 -- the answer's meaning leads back to it
 abbrev pub walked_back : Ran State Unit → Walked
-walked_back r = record { answer = done_back r.outcome; place = r.state.place; groups = r.state.groups }
+walked_back r = record { answer = answer_of r.outcome; place = r.state.place; groups = r.state.groups }
 
 pub walked_back_lem : (w : Walked) → walked_back (walked_of w) ≡ w
-walked_back_lem w = ap (λ (a : Put). record { answer = a; place = w.place; groups = w.groups }) (done_back_lem w.answer)
+walked_back_lem w = ap (λ (a : Result Unit Refusal). record { answer = a; place = w.place; groups = w.groups }) (answer_back w.answer)
 
 -- any two results that a contract allows are equal; the contracts are read from the code
 pub is_unfit_range_one : Decides 0 is-unfit-range-kinds.ps is-unfit-range-kinds.r is-unfit-range-reads.Post

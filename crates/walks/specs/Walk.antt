@@ -3,8 +3,7 @@
 -- Assumes nothing.
 use Rattle.std.specs.Prelude.{ℕ, ◌+◌, ◌%◌, ◌≡◌, Bool, false, cond, ◌||◌, List, [], ◌∷◌, length, get_or, eqb, ltb}
 use Rattle.std.proofs.Math.Seq.{slice}
-use Rattle.refusal.specs.Refusals.{Outcome, taken, refused, grounds, refuse_if, past_limit, Ran, settle, then_run}
-use Rattle.bits.specs.Answers.{done_of}
+use Rattle.refusal.specs.Refusals.{Outcome, taken, refused, grounds, refuse_if, past_limit, Ran, ran_of, settle, then_run}
 use Rattle.syntax.specs.declared.Place.{Place}
 use Rattle.syntax.specs.Reads.{unsound, ahead}
 use Rattle.walks.specs.declared.Groups.{Groups}
@@ -20,7 +19,7 @@ state p g = record { place = p; groups = g }
 
 -- what an answer means, with the place and the groups after it
 abbrev pub walked_of : Walked → Ran State Unit
-walked_of w = record { outcome = done_of w.answer; state = state w.place w.groups }
+walked_of w = ran_of w.answer (state w.place w.groups)
 
 -- a walk that has come so far
 abbrev pub going : State → Ran State Unit

@@ -28,43 +28,37 @@ old delta a k m mask i h =
 pub loop-k-init : goal.loop-k-init
 unfolding add_segment
 loop-k-init c =
-    let m = c.args.mask.now in (
-      table_of 50 (min c.args.a 50) (λ (j : ℕ). get_or m j (pos 0) +ℤ to_z w32 (of_z w32 c.args.delta)) m (pos 0) c.requires.1
-          ∙ ap (λ (i : ℕ). add_segment (to_z w32 (of_z w32 c.args.delta)) (min c.args.a 50) i m) (sym c.sooner-k.ensures),
-      omega (arith, c.sooner-k.ensures),
-      omega (arith, c.sooner-k.ensures),
-    )
+    let m = c.args.mask.now in
+    table_of 50 (min c.args.a 50) (λ (j : ℕ). get_or m j (pos 0) +ℤ to_z w32 (of_z w32 c.args.delta)) m (pos 0) c.told-mask
+    ∙ ap (λ (i : ℕ). add_segment (to_z w32 (of_z w32 c.args.delta)) (min c.args.a 50) i m) (sym c.min-k.ensures)
 
-pub overflow_add-x : goal.overflow_add-x
-overflow_add-x c =
-    let o : get_or c.loop-k.mask c.loop-k.k (pos 0) ≡ get_or c.args.mask.now c.loop-k.k (pos 0) = old _ _ _ _ _ c.loop-k.invariant.0 (omega (arith, c.sooner-e.ensures)) in
+pub overflow_add-mask : goal.overflow_add-mask
+overflow_add-mask c =
+    let o : get_or c.loop-k.mask c.loop-k.k (pos 0) ≡ get_or c.args.mask.now c.loop-k.k (pos 0) = old _ _ _ _ _ c.loop-k.invariant (omega (arith, c.min-k-end.ensures)) in
     let w = c.requires.0.at c.loop-k.k in
     let f : SFits w32 (get_or c.loop-k.mask c.loop-k.k (pos 0)) = rw o (within_fits 1048576 1048576 w tt tt) in
     let d = c.ranges.delta in
     let g : SFits w32 (get_or c.loop-k.mask c.loop-k.k (pos 0) +ℤ c.args.delta) =
     rw o
-    (within_fits 1049088 1049088 (within_add 1048576 1048576 512 512 (get_or c.args.mask.now c.loop-k.k (pos 0)) c.args.delta w c.requires.2) tt tt) in
+    (within_fits 1049088 1049088 (within_add 1048576 1048576 512 512 (get_or c.args.mask.now c.loop-k.k (pos 0)) c.args.delta w c.requires.1) tt tt) in
     simp to_z-of_z g
 
 pub loop-k-preserved : goal.loop-k-preserved
 loop-k-preserved c =
-    let o : get_or c.loop-k.mask c.loop-k.k (pos 0) ≡ get_or c.args.mask.now c.loop-k.k (pos 0) = old _ _ _ _ _ c.loop-k.invariant.0 (omega (arith, c.sooner-e.ensures)) in
+    let o : get_or c.loop-k.mask c.loop-k.k (pos 0) ≡ get_or c.args.mask.now c.loop-k.k (pos 0) = old _ _ _ _ _ c.loop-k.invariant (omega (arith, c.min-k-end.ensures)) in
     let w = c.requires.0.at c.loop-k.k in
     let f : SFits w32 (get_or c.loop-k.mask c.loop-k.k (pos 0)) = rw o (within_fits 1048576 1048576 w tt tt) in
     let d = c.ranges.delta in
     let g : SFits w32 (get_or c.loop-k.mask c.loop-k.k (pos 0) +ℤ c.args.delta) =
     rw o
-    (within_fits 1049088 1049088 (within_add 1048576 1048576 512 512 (get_or c.args.mask.now c.loop-k.k (pos 0)) c.args.delta w c.requires.2) tt tt) in
-    let i = simp to_z-of_z at c.loop-k.invariant.0 in (
-      simp to_z-of_z (ap (λ (x : List ℤ). set x c.loop-k.k (get_or c.loop-k.mask c.loop-k.k (pos 0) +ℤ c.args.delta)) i ∙ segment_turn c.args.delta (min c.args.a 50) c.loop-k.k c.args.mask.now (get_or c.loop-k.mask c.loop-k.k (pos 0) +ℤ c.args.delta) (omega arith) (ap (λ (x : ℤ). x +ℤ c.args.delta) o)),
-      omega arith,
-      omega (arith, c.sooner-e.ensures),
-    )
+    (within_fits 1049088 1049088 (within_add 1048576 1048576 512 512 (get_or c.args.mask.now c.loop-k.k (pos 0)) c.args.delta w c.requires.1) tt tt) in
+    let i = simp to_z-of_z at c.loop-k.invariant in
+    simp to_z-of_z (ap (λ (x : List ℤ). set x c.loop-k.k (get_or c.loop-k.mask c.loop-k.k (pos 0) +ℤ c.args.delta)) i ∙ segment_turn c.args.delta (min c.args.a 50) c.loop-k.k c.args.mask.now (get_or c.loop-k.mask c.loop-k.k (pos 0) +ℤ c.args.delta) (omega (arith, c.min-k.ensures)) (ap (λ (x : ℤ). x +ℤ c.args.delta) o))
 
 pub returns : goal.returns
 returns c =
     let d = c.ranges.delta in
-    let e : c.loop-k.k ≡ min c.args.b 50 = omega (arith, c.sooner-e.ensures) in
-    simp to_z-of_z at c.loop-k.invariant.0
+    let e : c.loop-k.k ≡ min c.args.b 50 = omega (arith, c.min-k-end.ensures, c.min-k.ensures) in
+    simp to_z-of_z at c.loop-k.invariant
     ∙ ap (λ (i : ℕ). add_segment c.args.delta (min c.args.a 50) i c.args.mask.now) e
     ∙ segment_clip c.args.delta c.args.a c.args.b c.args.mask.now

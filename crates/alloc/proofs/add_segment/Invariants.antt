@@ -1,13 +1,10 @@
 -- `alloc::add_segment` meets its contract: the bands of a segment that there are get its step added.
 -- Assumes nothing.
-use Prim.Native.Nat.{◌≤◌, ◌-◌, min}
+use Prim.Native.Nat.{min}
 use mathlib.Core.Path.{◌≡◌}
 use Rattle.alloc.specs.Clauses.{add_segment}
 use Rattle.alloc.proofs.add_segment.Given as goal
 
 abbrev pub invariant-loop-k : goal.invariant-loop-k
 invariant-loop-k l =
-    (l.mask ≡ add_segment l.delta (min l.a 50) l.k l.initial.mask) × (min l.a 50 ≤ l.k) × (l.k ≤ min l.b 50)
-
-abbrev pub decreases-loop-k : goal.decreases-loop-k
-decreases-loop-k l = min l.b 50 - l.k
+    l.mask ≡ add_segment l.delta (min l.a 50) l.k l.initial.mask

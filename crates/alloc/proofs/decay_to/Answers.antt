@@ -24,5 +24,5 @@ returns c =
     let f4 = c.ranges.decay in
     let g1 = f-sub c.args.leak c.args.decay c.requires.0 c.requires.1 in
     let g2 = f-sub c.args.power c.args.gain c.requires.2 c.requires.3 in
-    let r : SFits w32 c.larger.result = record { sfits = c.larger.type_inv } in
-    simp to_z-of_z (simp to_z-of_z at c.larger.ensures)
+    let r : SFits w32 c.max.result = record { sfits = c.max.type_inv } in
+    simp to_z-of_z (simp to_z-of_z at c.max.ensures.value)

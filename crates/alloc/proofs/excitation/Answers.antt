@@ -22,8 +22,6 @@ loop-k-init c =
     let a = c.args in (
       c.requires.5 ∙ fill_start 50 a.first.0 (pos 0) (excite_at a.c a.first.0 a.end.0 (λ (j : ℕ). get_or a.bnd.now j (pos 0)) a.s0),
       sym (leak_at_first a.c a.first.0 a.end.0 (λ (j : ℕ). get_or a.bnd.now j (pos 0)) a.s0),
-      omega arith,
-      omega arith,
     )
 
 pub excite_step-s-requires : goal.excite_step-s-requires
@@ -47,6 +45,4 @@ loop-k-preserved c =
     let f = within_fits 262144 262144 k.out tt tt in (
       rw (to_z-of_z f) (ap (λ (x : List ℤ). set x c.loop-k.k c.excite_step-s.result.out) c.loop-k.invariant.0 ∙ fill_turn 50 a.first.0 c.loop-k.k (pos 0) (excite_at a.c a.first.0 a.end.0 (λ (j : ℕ). get_or a.bnd.now j (pos 0)) a.s0) c.excite_step-s.result.out (omega arith) (ap (λ (x : Carried). x.out) n)),
       n,
-      omega arith,
-      omega arith,
     )

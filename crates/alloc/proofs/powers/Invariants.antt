@@ -1,12 +1,8 @@
 -- `alloc::powers` meets its contract: each turn fills one bin's place.
 -- Assumes nothing.
-use Prim.Native.Nat.{◌≤◌, ◌-◌}
 use mathlib.Core.Path.{◌≡◌}
 use Rattle.alloc.specs.Clauses.{powers_of}
 use Rattle.alloc.proofs.powers.Given as goal
 
 abbrev pub invariant-loop-i : goal.invariant-loop-i
-invariant-loop-i l = (l.psd ≡ powers_of l.exp l.start l.i) × (l.start ≤ l.i) × (l.i ≤ l.end)
-
-abbrev pub decreases-loop-i : goal.decreases-loop-i
-decreases-loop-i l = l.end - l.i
+invariant-loop-i l = l.psd ≡ powers_of l.exp l.fn.bins.start.0 l.i

@@ -27,4 +27,4 @@ returns c =
     let g1 = f-1 c.args.p c.args.c.fgain c.args.low c.requires.0 c.requires.1.fg c.requires.2 in
     let g2 = f-2 c.args.p c.args.c.fgain c.args.low c.requires.0 c.requires.1.fg c.requires.2 in
     let g3 = f-1 c.args.p c.args.c.sgain c.args.low c.requires.0 c.requires.1.sg c.requires.2 in
-    simp to_z-of_z (rw (simp to_z-of_z at c.begins-begun.ensures))
+    simp to_z-of_z (rw (simp to_z-of_z at c.begins.ensures))

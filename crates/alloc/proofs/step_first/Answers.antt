@@ -9,6 +9,7 @@ use Rattle.tables.specs.Numbers.{Within}
 use Rattle.alloc.specs.Excite.{step_first}
 use Rattle.tables.proofs.Signed.{sfits, min_law, within_fits}
 use Rattle.alloc.proofs.step_first.Goals as goal
+use Rattle.std.proofs.Common.{rules}
 
 module _ (p g l : ℤ) (h : Within 131072 131072 p) (k : Within 0 2048 g) (m : Within 0 2048 l) where
   f-1 : SFits w32 (p -ℤ g)
@@ -30,6 +31,6 @@ returns c =
     let fg = within_fits 0 2048 c.requires.1 tt tt in
     let g1 = f-1 c.args.p c.args.c.fgain c.args.low c.requires.0 c.requires.1 c.requires.2 in
     let g2 = f-2 c.args.p c.args.c.fgain c.args.low c.requires.0 c.requires.1 c.requires.2 in
-    let ff : SFits w32 c.args.s.fast = record { sfits = c.struct_told-1.given.0.1 } in
-    let fs : SFits w32 c.args.s.slow = record { sfits = c.struct_told-1.given.1.0.1 } in
+    let ff : SFits w32 c.args.s.fast = search rules in
+    let fs : SFits w32 c.args.s.slow = search rules in
     simp to_z-of_z

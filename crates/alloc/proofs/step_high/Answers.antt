@@ -28,5 +28,5 @@ returns c =
     let l = within_fits 0 384 c.requires.2.low tt tt in
     let a : SFits w32 c.decay_to-fast.result = record { sfits = c.decay_to-fast.type_inv } in
     let b : SFits w32 c.decay_to-slow.result = record { sfits = c.decay_to-slow.type_inv } in
-    let m : SFits w32 c.larger-out.result = record { sfits = c.larger-out.type_inv } in
-    simp to_z-of_z (rw (simp to_z-of_z at c.larger-out.ensures, fast-is, slow-is))
+    let m : SFits w32 c.max.result = record { sfits = c.max.type_inv } in
+    simp to_z-of_z (rw (simp to_z-of_z at c.max.ensures.value, fast-is, slow-is))

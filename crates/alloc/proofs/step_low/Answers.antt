@@ -47,6 +47,6 @@ returns c =
     let l = c.ranges.low in
     let a : SFits w32 c.decay_to-fast.result = record { sfits = c.decay_to-fast.type_inv } in
     let b : SFits w32 c.decay_to-slow.result = record { sfits = c.decay_to-slow.type_inv } in
-    let m : SFits w32 c.larger-out.result = record { sfits = c.larger-out.type_inv } in
+    let m : SFits w32 c.max.result = record { sfits = c.max.type_inv } in
     let d = f-sub in
-    simp to_z-of_z (rw (simp to_z-of_z at c.larger-out.ensures, fast-is, slow-is))
+    simp to_z-of_z (rw (simp to_z-of_z at c.max.ensures.value, fast-is, slow-is))

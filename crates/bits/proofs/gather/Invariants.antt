@@ -1,12 +1,9 @@
--- `bits::gather` meets its contract. The invariant: v is the value of the first i bytes.
+-- `bits::gather` meets its contract. The invariant: v is the value of the bytes so far.
 -- Assumes nothing.
 use mathlib.Core.Path.{◌≡◌}
-use Prim.Native.Nat.{◌*◌, ◌-◌, ◌≤◌}
+use Prim.Native.Nat.{◌*◌}
 use Rattle.bits.specs.Bits.{bits_at}
 use Rattle.bits.proofs.gather.Given as goal
 
-abbrev pub invariant-loop-i : goal.invariant-loop-i
-invariant-loop-i l = (l.i ≤ l.count) × (l.v ≡ bits_at l.s (8 * l.first) (8 * l.i))
-
-abbrev pub decreases-loop-i : goal.decreases-loop-i
-decreases-loop-i l = l.count - l.i
+abbrev pub invariant-loop-x : goal.invariant-loop-x
+invariant-loop-x l = l.v ≡ bits_at l.s (8 * l.first) (8 * l.x-index)

@@ -2,12 +2,9 @@
 -- Assumes nothing.
 use mathlib.Core.Path.{◌≡◌}
 use mathlib.Core.List.{[]}
-use Prim.Native.Nat.{◌-◌, ◌*◌, ◌≤◌}
+use Prim.Native.Nat.{◌*◌}
 use Rattle.bits.specs.Bits.{bits_at}
 use Rattle.bits.proofs.zero_bits.Given as goal
 
 abbrev pub invariant-loop-k : goal.invariant-loop-k
-invariant-loop-k l = (l.k ≤ l.whole) × (bits_at l.x l.a (32 * l.k) ≡ bits_at [] 0 (32 * l.k))
-
-abbrev pub decreases-loop-k : goal.decreases-loop-k
-decreases-loop-k l = l.whole - l.k
+invariant-loop-k l = bits_at l.x l.a (32 * l.k) ≡ bits_at [] 0 (32 * l.k)

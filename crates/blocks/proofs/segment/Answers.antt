@@ -1,41 +1,51 @@
--- `blocks::segment` meets its contract: three elements of the sticky reader are a segment.
+-- `blocks::segment` meets its contract: three elements are a segment.
 -- Assumes nothing.
-use mathlib.Core.Path.{ap, ◌∙◌}
 use native.Mathlib.Omega.{arith}
-use Rattle.tables.specs.declared.Delta.{Delta}
-use Rattle.syntax.specs.Reads.{reader_of}
-use Rattle.blocks.specs.Side.{offst_ask, len_ask, ba_ask, with_segment}
-use Rattle.syntax.proofs.Ends.{asked}
-use Rattle.blocks.proofs.SideLaws.{segment_is, value_below}
+use Rattle.std.proofs.lemmas.Result.{err_from_is_err_and}
+use Rattle.blocks.specs.Side.{offst_ask, len_ask, ba_ask}
+use Rattle.blocks.proofs.Held.{read_asked}
+use Rattle.blocks.proofs.SideLaws.{read_below, offset_stops, len_stops, ba_stops, segment_read}
 use Rattle.blocks.proofs.segment.Goals as goal
 
-pub byte-requires : goal.byte-requires
-byte-requires c =
+pub returns-in_err-offset-clause-run : goal.returns-in_err-offset-clause-run
+returns-in_err-offset-clause-run c =
     let a = c.args in
-    value_below a.frame.now (offst_ask a.slot) _ c.next-o.result _ 256 (asked a.frame.now _ c.field.ensures c.next-o.ensures.0)
-    c.next-o.ensures.1 (omega arith) (omega arith)
+    let p = err_from_is_err_and c.from_residual.result c.from_residual.ensures.1 in
+    rw (p.1, p.2) (offset_stops a.slot a.delta.now a.c.now a.log.now (read_asked a.c.now a.log.now c.field.ensures c.in_err-offset.ensures))
 
-pub byte-requires-2 : goal.byte-requires-2
-byte-requires-2 c =
+pub returns-in_err-len-clause-run : goal.returns-in_err-len-clause-run
+returns-in_err-len-clause-run c =
     let a = c.args in
-    value_below a.frame.now (len_ask a.slot) _ c.next-l.result _ 256 (asked a.frame.now _ c.field-2.ensures c.next-l.ensures.0)
-    c.next-l.ensures.1 (omega arith) (omega arith)
+    let r = c.from_residual-in_err-len in
+    let p = err_from_is_err_and r.result r.ensures.1 in
+    rw (p.1, p.2)
+    (len_stops a.slot a.delta.now a.c.now a.log.now (read_asked a.c.now a.log.now c.field.ensures c.in_ok-offset.ensures)
+    (read_asked _ _ c.field-2.ensures c.in_err-len.ensures))
 
-pub byte-requires-3 : goal.byte-requires-3
-byte-requires-3 c =
+pub returns-in_err-ba-clause-run : goal.returns-in_err-ba-clause-run
+returns-in_err-ba-clause-run c =
     let a = c.args in
-    value_below a.frame.now (ba_ask a.slot) _ c.next-b.result _ 256 (asked a.frame.now _ c.field-3.ensures c.next-b.ensures.0)
-    c.next-b.ensures.1 (omega arith) (omega arith)
+    let r = c.from_residual-in_err-ba in
+    let p = err_from_is_err_and r.result r.ensures.1 in
+    rw (p.1, p.2)
+    (ba_stops a.slot a.delta.now a.c.now a.log.now (read_asked a.c.now a.log.now c.field.ensures c.in_ok-offset.ensures)
+    (read_asked _ _ c.field-2.ensures c.in_ok-len.ensures) (read_asked _ _ c.field-3.ensures c.in_err-ba.ensures))
 
-pub returns : goal.returns
-returns c =
+pub overflow_cast-offset : goal.overflow_cast-offset
+overflow_cast-offset c =
     let a = c.args in
-    let f = a.frame.now in (
-      segment_is f a.slot a.w.delta _ (reader_of a.w.reader a.log.now) _ _ _
-          (asked f _ c.field.ensures c.next-o.ensures.0)
-          (asked f _ c.field-2.ensures c.next-l.ensures.0)
-          (asked f _ c.field-3.ensures c.next-b.ensures.0)
-          (c.put_segment-e.ensures
-          ∙ (λ i. with_segment a.w.delta ((c.byte.ensures ∙ c.next-o.ensures.1) i) ((c.byte-2.ensures ∙ c.next-l.ensures.1) i) ((c.byte-3.ensures ∙ c.next-b.ensures.1) i))),
-      ap (λ (d : Delta). d.count) c.put_segment-e.ensures,
-    )
+    omega (arith, read_below a.c.now a.log.now (offst_ask a.slot) (read_asked _ _ c.field.ensures c.in_ok-offset.ensures))
+
+pub overflow_cast-len : goal.overflow_cast-len
+overflow_cast-len c =
+    omega (arith, read_below _ _ (len_ask c.args.slot) (read_asked c.read_next.new.c c.read_next.new.log c.field-2.ensures c.in_ok-len.ensures))
+
+pub overflow_cast-ba : goal.overflow_cast-ba
+overflow_cast-ba c =
+    omega (arith, read_below _ _ (ba_ask c.args.slot) (read_asked c.read_next-2.new.c c.read_next-2.new.log c.field-3.ensures c.in_ok-ba.ensures))
+
+pub returns-clause-run : goal.returns-clause-run
+returns-clause-run c =
+    let a = c.args in
+    segment_read a.slot a.delta.now a.c.now a.log.now (read_asked a.c.now a.log.now c.field.ensures c.in_ok-offset.ensures)
+    (read_asked _ _ c.field-2.ensures c.in_ok-len.ensures) (read_asked _ _ c.field-3.ensures c.in_ok-ba.ensures) c.put_segment.ensures

@@ -1,23 +1,11 @@
--- `blocks::segments` meets its contract: what has been read is the segments so far, as many as turns.
+-- `blocks::segments` meets its contract: after so many turns it has read so many segments.
 -- Assumes nothing.
-use Prim.Native.Nat.{ℕ, ◌+◌}
-use mathlib.Core.Path.{refl, ap, ◌∙◌}
 use native.Mathlib.Omega.{arith}
-use borrow.Author.Rules.{rules}
-use Rattle.tables.specs.declared.Delta.{Delta}
-use Rattle.blocks.specs.Side.{segments_of}
-use Rattle.blocks.proofs.SideLaws.{segments_again}
+use Rattle.std.proofs.lemmas.Result.{err_from_is_err_and}
+use Rattle.blocks.proofs.SideLaws.{segments_halt}
 use Rattle.blocks.proofs.segments.Goals as goal
 
-pub loop-k-init : goal.loop-k-init
-unfolding segments_of
-loop-k-init c = (omega arith, ap (λ (d : Delta). d.count) c.no_delta-none.ensures, refl, refl)
-
-pub loop-k-preserved : goal.loop-k-preserved
-loop-k-preserved c =
-    let a = c.args in (
-      omega arith,
-      c.segment-w.ensures.1 ∙ ap (λ (x : ℕ). x + 1) c.loop-k.invariant.1,
-      c.segment-w.ensures.0 ∙ segments_again a.frame.now a.slot c.loop-k.k _ _ c.loop-k.invariant.2,
-      search rules,
-    )
+pub returns-in_err-segment : goal.returns-in_err-segment
+returns-in_err-segment c =
+    let p = err_from_is_err_and c.from_residual.result c.from_residual.ensures.1 in
+    rw (p.1, p.2) (segments_halt c.args.slot c.loop.counter c.args.c.now _ c.loop.invariant.1 c.in_err-segment.ensures.run (omega arith))

@@ -1,26 +1,18 @@
--- `crc::crc16` meets its contract. The loop's invariant: what the rest of the bytes makes of the register is the CRC of all.
+-- `crc::crc16` meets its contract: the folds over the pairs and over what is left are folds of the definition's steps.
 -- Assumes nothing.
-use mathlib.Core.Path.{sym, ◌∙◌}
-use Prim.Native.Nat.{◌+◌, ◌≤◌, ◌<◌}
-use native.Mathlib.Omega.{arith}
-use borrow.Author.Rules.{rules}
-use lib.ListN.{length}
-use Rattle.crc.proofs.Loops.{crc_next, crc_next_two, crc_end}
+use Rattle.std.proofs.Common.{◌∙◌, ap, ◌/◌, ◌*◌, ◌≤◌, length, drop, arith, rules}
+use Rattle.std.specs.Simd.{first_chunks}
+use Rattle.std.proofs.lemmas.Iterator.{YieldsList-from_slice}
+use Rattle.std.proofs.lemmas.Iterator.Consumers.{fold_from_yields_List}
+use Rattle.crc.specs.Crc.{byte_in, crc_of}
+use Rattle.crc.proofs.Loops.{crc_fold, pair_in, crc_pairs}
 use Rattle.crc.proofs.crc16.Goals as goal
 
-pub loop-i-preserved : goal.loop-i-preserved
-loop-i-preserved c =
-    let s = c.args.bytes.now in
-    let h : c.loop-i.i + 1 < length s = omega arith in
-    (search rules, crc_next_two c.loop-i.c c.pair-c.result s c.loop-i.i h c.pair-c.ensures ∙ c.loop-i.invariant.1)
-
-pub returns-then-i-bytes : goal.returns-then-i-bytes
-returns-then-i-bytes c =
-    let s = c.args.bytes.now in
-    let h : c.loop-i.i < length s = omega arith in
-    let e : length s ≤ c.loop-i.i + 1 = omega arith in
-    sym (crc_end c.next-c.result s (c.loop-i.i + 1) e) ∙ crc_next c.loop-i.c c.next-c.result s c.loop-i.i h c.next-c.ensures ∙ c.loop-i.invariant.1
-
-pub returns-else-i-bytes : goal.returns-else-i-bytes
-returns-else-i-bytes c =
-    sym (crc_end c.loop-i.c _ c.loop-i.i c.if-i-bytes.false) ∙ c.loop-i.invariant.1
+pub returns : goal.returns
+returns c =
+    let xs = c.args.bytes.now in
+    let k = length xs / 2 in
+    let fits : k * 2 ≤ length xs = omega arith in
+    let pairs = fold_from_yields_List {all = first_chunks 2 k xs} _ pair_in c.args.init _ c.fold-c.ensures.ran (YieldsList-from_slice _ cc) (λ a x b q h. search rules) in
+    let rest = fold_from_yields_List {all = drop (k * 2) xs} _ byte_in c.fold-c.result _ c.fold.ensures.ran (YieldsList-from_slice _ cc) (λ a x b q h. search rules) in
+    rest ∙ crc_fold c.fold-c.result (drop (k * 2) xs) ∙ ap (λ r. crc_of r (drop (k * 2) xs)) pairs ∙ crc_pairs c.args.init k xs fits

@@ -1,15 +1,16 @@
--- `exponents::groups` meets its contract: after i turns the run is that of i groups.
+-- `exponents::groups` meets its contract: after so many turns the run is that of so many groups.
 -- Assumes nothing.
-use Prim.Native.Nat.{◌+◌, ◌-◌, ◌*◌, ◌≤◌}
+use Prim.Native.Nat.{◌+◌, ◌*◌, ◌≤◌}
 use mathlib.Core.Path.{◌≡◌}
-use lib.ListN.{length}
-use Rattle.exponents.specs.Turns.{run_of, groups_on}
+use Rattle.refusal.specs.Refusals.{taken, ends}
+use Rattle.syntax.specs.Reads.{standing}
+use Rattle.syntax.specs.Cursors.{held_of, over}
+use Rattle.exponents.specs.Turns.{laid_of, groups_on}
 use Rattle.exponents.proofs.groups.Given as goal
 
-abbrev pub invariant-loop-i : goal.invariant-loop-i
-invariant-loop-i l =
-    (l.i ≤ l.count) × (run_of l.w l.log l.exp ≡ groups_on l.frame l.ask l.g l.i (run_of l.initial.w l.initial.log l.initial.exp)) × (l.w.last ≤ 30) × (l.w.next ≤ 256 + 12 * l.i)
-    × (length l.log ≡ length l.initial.log) × (length l.exp ≡ length l.initial.exp)
-
-abbrev pub decreases-loop-i : goal.decreases-loop-i
-decreases-loop-i l = l.count - l.i
+abbrev pub invariant-loop : goal.invariant-loop
+invariant-loop l =
+    let s = l.initial in
+    (held_of (taken (laid_of l.run l.exp)) l.c l.log
+    ≡ over s.c (groups_on s.c.bytes.now l.ask s.run.size l.counter (ends (standing s.c.place s.log) (taken (laid_of s.run s.exp)))))
+    × (l.run.size ≡ s.run.size) × (l.run.next ≤ 256 + 12 * l.counter)

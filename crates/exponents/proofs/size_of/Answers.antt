@@ -16,5 +16,5 @@ returns-in-2 c = rw c.in-2.is (refl, omega arith, omega arith)
 pub returns-in_default : goal.returns-in_default
 unfolding size_of
 returns-in_default c =
-    let e : c.args.strategy ≡ 3 = omega (arith, c.in_default.in_default-own.rest.0.1, c.in_default.in_default-own.rest.1) in
+    let e : c.args.strategy ≡ 3 = omega arith in
     rw e (refl, omega arith, omega arith)

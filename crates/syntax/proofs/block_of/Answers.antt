@@ -1,13 +1,14 @@
 -- `syntax::block_of` meets its contract: the low bits of the word in two's complement.
 -- Assumes nothing.
-use lib.Dec.{lit≤}
+use Rattle.std.proofs.Common.{◌%◌, refl, arith}
+use lib.Dec.{lit<}
 use mir.Syntax.{w8}
-use Rattle.syntax.proofs.Signed.{low_signed, diff_signed}
-use native.Mathlib.Omega.{arith}
+use mir.Val.{Fits}
+use mir.Facts.{of_z-to_z}
+use Rattle.syntax.proofs.Signed.{low_bits}
 use Rattle.syntax.proofs.block_of.Goals as goal
 
-pub returns-then-v-lt128 : goal.returns-then-v-lt128
-returns-then-v-lt128 c = low_signed w8 (lit≤ tt) c.args.w c.if-v-lt128.true
-
-pub returns-else-v-lt128 : goal.returns-else-v-lt128
-returns-else-v-lt128 c = diff_signed w8 (lit≤ tt) c.args.w (omega arith) c.if-v-lt128.false
+pub returns : goal.returns
+returns c =
+    let fits : Fits w8 (c.args.w % 256) = record { fits = omega arith } in
+    rw (c.cast_signed.ensures, of_z-to_z fits) (low_bits w8 c.args.w refl (lit< tt))

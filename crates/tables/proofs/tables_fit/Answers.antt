@@ -2,12 +2,15 @@
 -- Assumes nothing.
 use mathlib.Core.Path.{sym, ◌∙◌}
 use Rattle.tables.specs.Fits.{tables_fit}
+use Rattle.tables.proofs.FitLaws.{lent_is}
 use Rattle.tables.proofs.tables_fit.Goals as goal
 
-pub returns-then-hearing_fits : goal.returns-then-hearing_fits
+pub returns-then-lent_fits : goal.returns-then-lent_fits
 unfolding tables_fit
-returns-then-hearing_fits c = rw (sym c.hearing_fits.ensures ∙ c.if-hearing_fits.true) c.log_add_fits.ensures
+returns-then-lent_fits c =
+    rw (sym (c.lent_fits.ensures ∙ lent_is 150 4095 c.args.hearing.now) ∙ c.if-lent_fits.true)
+    (c.lent_fits-then-lent_fits.ensures ∙ lent_is 256 64 c.args.latab.now)
 
-pub returns : goal.returns
+pub returns-else-lent_fits : goal.returns-else-lent_fits
 unfolding tables_fit
-returns c = rw (sym c.hearing_fits.ensures ∙ c.if-hearing_fits.false)
+returns-else-lent_fits c = rw (sym (c.lent_fits.ensures ∙ lent_is 150 4095 c.args.hearing.now) ∙ c.if-lent_fits.false) c.if-lent_fits.false

@@ -1,21 +1,7 @@
--- `capi::state::put_segments` meets its contract: each slot has its row, and a slot above 6 none.
+-- `capi::state::put_segments` meets its contract: a refused call changes nothing.
 -- Assumes nothing.
-use Prim.Native.Nat.{ℕ, ◌+◌}
-use mathlib.Core.Path.{sym, ap, ◌∙◌}
-use mathlib.Core.List.{List}
-use lib.ListN.{set}
-use borrow.Author.Tests.{ltb-true}
-use Rattle.capi.proofs.Rows.{put_in, put_out}
+use Rattle.capi.proofs.Rows.{kept_told}
 use Rattle.capi.proofs.state.put_segments.Goals as goal
 
-pub returns-then-lacks_row : goal.returns-then-lacks_row
-returns-then-lacks_row c =
-    let a = c.args in
-    let l = c.lacks_row.ensures in
-    put_out a.rows.now l.1 a.slot a.delta (ltb-true 6 a.slot (sym l.0 ∙ c.if-lacks_row.true))
-
-pub returns : goal.returns
-returns c =
-    let a = c.args in
-    ap (λ (row : List ℕ). set a.rows.now (a.slot + 1) row) c.row_of-row.ensures
-    ∙ put_in a.rows.now c.lacks_row.ensures.1 a.slot a.delta
+pub returns-in-Err : goal.returns-in-Err
+returns-in-Err c = kept_told c.args.rows.now c.args.slot c.lacks_row-lacks.ensures.1 c.in-Err.is c.tell.ensures
