@@ -17,6 +17,8 @@ use walks::is_unfit_range;
 pub type AhtWalked = Moved<usize>;
 
 // What a walk goes over: a frame, and a place in it whose limit lies inside.
+// That a mantissa has at most 16 bits, that there are at most 256 codes and that a place is below the limit are clauses of the few steps
+// that need them: a type for each would be taken apart there.
 #[derive(Clone, Copy)]
 struct Over<'a> {
     frame: &'a [u8],

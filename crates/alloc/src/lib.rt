@@ -41,7 +41,8 @@ pub struct Leak {
 }
 
 // The decays and gains of a channel. Their range, and below that of what is carried, stands in clauses (`Tame`, `Kept`) and not in the
-// types: the definitions, such as `step_low`, are over any numbers, which a type with an invariant would not have.
+// types: the definitions, such as `step_low`, are over any numbers, which a type with an invariant would not have. So do the ranges of single
+// numbers below (`Sum`, `Low`, `Knee`, `Cut`) and of their arrays: a type for each would be wrapped and unwrapped at every sum.
 #[derive(Clone, Copy)]
 struct Curve {
     sdecay: i32,
@@ -226,6 +227,7 @@ fn logadd(a: i32, b: i32, latab: &[u8; 256]) -> i32
 }
 
 // The power of the bins from lo to hi.
+// The powers and the lent table come apart: one is made here, the other is lent for every channel.
 fn band_sum(psd: &[i32; 256], latab: &[u8; 256], lo: usize, hi: usize) -> i32
     requires { (lo < hi) × (hi ≤ 256) × Powers psd.now }
     ensures { result ≡ band_sum latab.now (λ k. get_or psd.now k (pos 0)) lo (hi - 1 - lo) }
@@ -292,6 +294,7 @@ fn low_step(peak: i32, a: i32, b0: i32, b1: i32) -> i32
 }
 
 // The same by band: its peak falls at band 7, and from band 20 on it fades.
+// A number that is used more than once has a short name of its own, here and below.
 #[tactic(auto, unfolding(crate::specs::Clauses::calc_lowcomp))]
 fn calc_lowcomp(a: i32, b0: i32, b1: i32, band: Band) -> i32
     requires { Low a × Sum b0 × Sum b1 }

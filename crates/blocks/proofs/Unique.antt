@@ -1,16 +1,22 @@
 -- For each public function, any two results that its contract allows are equal.
 -- Assumes nothing.
 use mathlib.Core.Path.{◌≡◌, sym, ap, ◌∙◌}
+use Prim.Native.Nat.{ℕ}
+use mathlib.Core.List.{List}
+use mathlib.Core.Bool.{Bool}
 use contract.Lifetimes.{Lfts}
 use borrow.Fn.Kinds.{Dens, ended_of}
 use denote.Triple.Clauses.{AtExit}
 use Rattle.std.specs.Prelude.{Result}
 use Rattle.refusal.specs.declared.Refusal.{Refusal}
+use Rattle.refusal.specs.Refusals.{outcome_of, leaves}
 use Rattle.refusal.proofs.Unique.{answer_one}
 use Rattle.refusal.proofs.Decides.{Decides}
 use Rattle.tables.specs.declared.Delta.{Delta}
 use Rattle.syntax.specs.declared.Moved.{Moved}
+use Rattle.syntax.specs.Reads.{Standing, moved_of}
 use Rattle.syntax.proofs.Unique.{moved_same}
+use Rattle.blocks.specs.Side.{deltbae_of, slot_delta_of, settled_of}
 use Rattle.blocks.proofs.allocate_block.Kinds as allocate-block-kinds
 use Rattle.blocks.proofs.allocate_block.Reads as allocate-block-reads
 use Rattle.blocks.proofs.delta_code.Kinds as delta-code-kinds
@@ -31,3 +37,12 @@ pub read_delta_one : (κs : Lfts 2) (a : Dens κs read-delta-kinds.ps) (x y : Mo
 read_delta_one κs a x y s t p q =
     let e = p ∙ sym q in
     (moved_same x y (ap (λ w. w.outcome) e) (ap (λ w. w.state.place) e), ap (λ w. w.state.log) e)
+
+-- where a call is refused its caller's segments stay: the state that such a caller has then
+pub delta_code_leaves : (before : Delta) (slot code : ℕ) (block0 : Bool) (r : Result Delta Refusal)
+    → outcome_of r ≡ deltbae_of before slot code block0 → leaves before (outcome_of r) ≡ leaves before (deltbae_of before slot code block0)
+delta_code_leaves before slot code block0 r e = ap (leaves before) e
+
+pub read_delta_settles : (before : Delta) (frame log : List ℕ) (st : Standing) (slot : ℕ) (m : Moved Delta)
+    → moved_of m log ≡ slot_delta_of frame st slot → settled_of before (moved_of m log) ≡ settled_of before (slot_delta_of frame st slot)
+read_delta_settles before frame log st slot m e = ap (settled_of before) e

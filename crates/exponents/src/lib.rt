@@ -79,6 +79,7 @@ fn group_count(slot: u8, g: usize, start: usize, end: usize) -> usize
 }
 
 // An element of a slot's exponents: its name is that for a full bandwidth channel, for coupling or for LFE.
+// Beside the asks of `blocks` and `frame`: three names and an index of LFE's own are told apart here.
 fn ask_of(slot: u8, full: u32, coupling: u32, lfe: u32, width: usize) -> Ask
     ensures { result ≡ ask_of slot full coupling lfe width }
 {

@@ -56,6 +56,7 @@ fn ac3_frame_words(fscod: u32, code: u32) -> u32
 }
 
 // An AC-3 frame: 4 for an fscod or a frmsizecod without a meaning.
+// A match on bsid calls this one or the other, which read other fields.
 #[tactic(auto, using(bits::proofs::AnswerLaws::got_value), unfolding(crate::specs::Probe::ac3_of))]
 fn ac3(frame: &[u8]) -> Result<Header, Refusal>
     requires { 6 ≤ length frame.now }

@@ -4,6 +4,7 @@ ghost use Rattle.std.specs.Prelude.{◌≤◌, length};
 // At most so many.
 pub const ROOM: usize = 48;
 
+// A number that is not there is 0 and no Option, since the recorded format says so.
 pub type Row = [usize; ROOM];
 
 // A row that begins with these.

@@ -4,6 +4,7 @@ use crate::numbers;
 use crate::numbers::Row;
 use refusal::Refusal;
 
+// The refusal's number, since recorded answers hold it.
 pub fn answer(answer: Result<usize, Refusal>) -> Row {
     match answer {
         Ok(value) => numbers::row(&[0, 0, value]),

@@ -78,14 +78,6 @@ start_past k h =
     let e : 50 ≡ min k 50 = omega arith in
     ap (λ (j : ℕ). get_or band_starts j 0) e
 
--- a band that begins before the end is one of the 50
-pub start_below : (k : ℕ) → band_start k < 253 → k < 50
-start_below k h = by (ltb k 50) refl
-  where
-    by : (t : Bool) → ltb k 50 ≡ t → k < 50
-    by true e = ltb-true k 50 e
-    by false e = absurd (omega (arith, start_past k (ltb-false k 50 e)))
-
 -- a bin lies in its band
 pub band_low : (b : ℕ) → b < 253 → band_start (band_of b) ≤ b
 unfolding band_start band_of

@@ -4,16 +4,15 @@
 use Prim.Native.Nat.{ℕ, ◌<◌, ◌≤◌, ◌+◌, ◌-◌, ◌*◌, ◌/◌, min, suc, max, zero}
 use mathlib.Core.Path.{◌≡◌, subst, sym, ap, ◌∙◌, refl}
 use native.Mathlib.Omega.{arith}
-use lib.IntN.{ℤ, pos, ◌-ℤ◌, ◌+ℤ◌, nat_abs, ◌*ℤ◌, negsuc, neg_ℤ, sub_ℕ, pos-ne-negsuc}
-use mir.Facts.{to_z-of_z}
-use mir.Syntax.{w32, w64}
-use mir.Val.{SFits, to_z, of_z, Fits}
-use borrow.Author.Tests.{ltb-true, eq-eqb, ne_eqb, ltb-false}
+use lib.IntN.{ℤ, pos, ◌-ℤ◌, ◌+ℤ◌, nat_abs, ◌*ℤ◌, negsuc, neg_ℤ, sub_ℕ}
+use mir.Syntax.{w32}
+use mir.Val.{SFits}
+use borrow.Author.Tests.{ltb-true, ltb-false}
 use mathlib.Core.Bool.{Bool, true, false, cond, not}
 use lib.Dec.{ltb, leb, T, ltb→lt, leb→le}
 use lib.Signed.{shr_z, mag, lt_z, non_neg}
 use native.Mathlib.Nat.{mul-zero}
-use Rattle.tables.specs.Numbers.{up, dn, max_z, eq_z, Within}
+use Rattle.tables.specs.Numbers.{up, dn, max_z, Within}
 
 -- one of the two is 0
 pub parts : (z : ℤ) → min (up z) (dn z) ≡ 0
@@ -45,13 +44,6 @@ neg_law (negsuc n) = (refl, refl)
 pub min_law : (a b : ℤ) → up (a -ℤ b) + (dn a + up b) ≡ dn (a -ℤ b) + (up a + dn b)
 min_law a b = omega (arith, add_law a (neg_ℤ b), neg_law b)
 
--- two are equal where their differences are
-pub ext : (a b : ℤ) → up a + dn b ≡ up b + dn a → a ≡ b
-ext (pos a) (pos b) h = ap pos (omega arith)
-ext (pos a) (negsuc b) h = absurd (omega arith)
-ext (negsuc a) (pos b) h = absurd (omega arith)
-ext (negsuc a) (negsuc b) h = ap negsuc (omega arith)
-
 pub same : {a b : ℤ} → a ≡ b → (up a ≡ up b) × (dn a ≡ dn b)
 same e = (ap up e, ap dn e)
 
@@ -73,11 +65,6 @@ lt_false (negsuc a) (pos b) t = absurd (ff t)
     ff : true ≡ false → ⊥
     ff p = subst T p tt
 lt_false (negsuc a) (negsuc b) t = omega (arith, ltb-false b a t)
-
--- the shift that rounds down
-pub shr_law : (z : ℤ) → (up (shr_z z 32) ≡ up z / 32) × (dn (shr_z z 32) ≡ (dn z + 31) / 32)
-shr_law (pos n) = (refl, refl)
-shr_law (negsuc n) = (refl, omega arith)
 
 pub shr4_law : (z : ℤ) → (up (shr_z z 4) ≡ up z / 4) × (dn (shr_z z 4) ≡ (dn z + 3) / 4)
 shr4_law (pos n) = (refl, refl)
@@ -102,32 +89,6 @@ pub max_law : (a b : ℤ) → (up (max_z a b) ≡ max (up a) (up b)) × (dn (max
 max_law a b = cond_ind (lt_z a b) b a (λ z. (up z ≡ max (up a) (up b)) × (dn z ≡ min (dn a) (dn b)))
     (λ t. let h = lt_true a b t in let p = parts a in let q = parts b in (omega arith, omega arith))
     (λ t. let h = lt_false a b t in let p = parts a in let q = parts b in (omega arith, omega arith))
-
--- what a cast of a number that is not negative asks
-pub to_usize : (z : ℤ) → dn z ≤ up z → up z < 2147483648 → T (non_neg z) × Fits w64 (nat_abs z)
-to_usize z h k =
-    let a = abs_law z in
-    let p = parts z in
-    (nonneg z h, record { fits = omega arith })
-
-pub eq_z_refl : (a b : ℤ) → a ≡ b → eq_z a b ≡ true
-eq_z_refl (pos a) (pos b) e = eq-eqb a b (ap up e)
-eq_z_refl (pos a) (negsuc b) e = absurd (pos-ne-negsuc a b e)
-eq_z_refl (negsuc a) (pos b) e = absurd (pos-ne-negsuc b a (sym e))
-eq_z_refl (negsuc a) (negsuc b) e = eq-eqb a b (ap mag e)
-
-pub eq_z_ne : (a b : ℤ) → (a ≡ b → ⊥) → eq_z a b ≡ false
-eq_z_ne (pos a) (pos b) n = ne_eqb a b (λ e. n (ap pos e))
-eq_z_ne (pos a) (negsuc b) n = refl
-eq_z_ne (negsuc a) (pos b) n = refl
-eq_z_ne (negsuc a) (negsuc b) n = ne_eqb a b (λ e. n (ap negsuc e))
-
--- a test `==` of two signed numbers compares their bits
-pub bits_eq : {a b : ℤ} → SFits w32 a → SFits w32 b → of_z w32 a ≡ of_z w32 b → a ≡ b
-bits_eq {a} {b} f g e = sym (to_z-of_z f) ∙ ap (to_z w32) e ∙ to_z-of_z g
-
-pub bits_ne : {a b : ℤ} → (of_z w32 a ≡ of_z w32 b → ⊥) → a ≡ b → ⊥
-bits_ne n e = n (ap (of_z w32) e)
 
 -- a multiple by a number that is not negative
 pub mul_law : (k : ℕ) (z : ℤ) → (up (pos k *ℤ z) ≡ k * up z) × (dn (pos k *ℤ z) ≡ k * dn z)

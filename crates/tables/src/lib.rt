@@ -150,6 +150,7 @@ pub fn start_of(k: Band) -> Bin
 }
 
 // The band of a bin. Where the bin is past the last band, the number of bands.
+// The number has a short name, here and in `start_of`, since the arms use it six times.
 pub fn band_of(b: Bin) -> Band
     ensures { result.0 ≡ band_of b.0 }
 {

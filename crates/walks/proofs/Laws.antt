@@ -18,7 +18,7 @@ use Rattle.syntax.specs.declared.Place.{Place}
 use Rattle.syntax.specs.Reads.{ahead}
 use Rattle.refusal.proofs.TestLaws.{or_false}
 use Rattle.walks.specs.declared.Groups.{Groups}
-use Rattle.walks.specs.Walk.{State, state, going, stopped, width, cost, counted, passing, moving_of, mantissa_of, walk_codes, unfit_range, unfit_walk, walk_of, Reachable}
+use Rattle.walks.specs.Walk.{State, state, going, stopped, width, cost, counted, passing, moving_of, mantissa_of, walk_codes, unfit_walk, walk_of, Reachable}
 
 -- the cases of a mantissa
 module _ (b : ℕ) (p : Place) (g : Groups) where
@@ -115,11 +115,6 @@ module _ (bap : List ℕ) (i : ℕ) (s : State) (r : Ran State Unit) (below : i 
 pub walk_empty : (bap : List ℕ) (i : ℕ) (r : Ran State Unit) → length bap ≤ i → walk_codes (drop i bap) r ≡ r
 unfolding walk_codes
 walk_empty bap i r h = rw (drop_of_length-le bap h)
-
--- what tests that don't hold say
-pub range_says : (start end : ℕ) → unfit_range start end ≡ false → (start ≤ end) × (end ≤ 256)
-range_says start end e =
-    let t = or_false (ltb end start) _ e in (ltb-false end start t.0, ltb-false 256 end t.1)
 
 module _ (frame : List ℕ) (p : Place) (bap : List ℕ) (start end : ℕ) (g : Groups) where
   -- the two ways of a walk
