@@ -7,7 +7,7 @@ ghost use Rattle.syntax.specs.Cursors.{opened, held_of, read_at, raw_held_of, ra
 use crate::{Ask, Place, Role};
 use refusal::Refusal;
 
-// The bytes that are read, and the place in them.
+// The bytes that are read, and the place in them. The log stays beside it and is no part of it, since C lends it anew with each call.
 #[derive(Clone, Copy)]
 pub struct Cursor<'a> {
     pub bytes: &'a [u8],

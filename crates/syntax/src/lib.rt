@@ -379,6 +379,8 @@ fn value_at(frame: &[u8], words: usize, place: Place, width: usize) -> Result<u3
 }
 
 // Reads one element and logs it: 6, then 1, then 19. A refused read changes neither place nor log. It is inlined, as `cursor::read_next` is.
+// Its last match, which `read_raw`, `span` and `close_span` have too, moves the place by a step of its own: one function of the four would
+// take that step as a closure, with a contract longer than the match.
 #[inline(always)]
 pub fn read_element(frame: &[u8], log: &mut [u32], place: Place, ask: Ask) -> Moved<u32>
     ensures { moved_of result log.new ≡ read_of frame.now (standing place log.old) ask }
