@@ -118,7 +118,7 @@ fn meant_by(d: u32) -> u8
 
 const VECTOR_WIDTHS: [u8; 8] = [0, 2, 3, 4, 5, 7, 8, 9];
 
-// The bits of a vector's index, by hebap.
+// The bits of a vector's index, by hebap. It and `gaq_width` have a table each: one look-up of both would ask for both bounds.
 #[tactic(auto, unfolding(crate::specs::Aht::vector_width))]
 fn vector_width(h: u8) -> u8
     requires { (0 < h) × (h < 8) }
@@ -335,7 +335,7 @@ impl<'a> Over<'a> {
         Ok(())
     }
 
-    // The gain words, then the bins.
+    // The gain words, then the bins. base has a name, since it is the bit before the words are read.
     fn after_mode(&self, mode: u8, hebap: &[u8], t: &mut Tally) -> Result<(), Why>
         requires { (mode < 4) × (length hebap.now ≤ 256) × (t.old.pos ≤ self.now.place.limit) }
         ensures { went self.now result t.new ≡ bins_on self.now.frame.now mode hebap.now (stood self.now t.old) }

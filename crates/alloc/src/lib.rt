@@ -570,7 +570,8 @@ fn address(psd: i32, m: i32) -> usize
     above(psd, m).clamp(0, 63) as usize
 }
 
-// Puts the pointers of the bins from lo to hi, which share the mask m.
+// Puts the pointers of the bins from lo to hi, which share the mask m. The table is lent and the pointers are written, so no struct has both; the
+// arrays are whole, as the definition has them.
 fn point(out: &mut [u8; 256], baptab: &[u8; 64], psd: &[i32; 256], m: i32, lo: usize, hi: usize)
     requires { Powers psd.now × Cut m × (lo ≤ hi) × (hi ≤ 256) }
     ensures { out.new ≡ pointed baptab.now (λ j. get_or psd.now j (pos 0)) m lo hi out.old }

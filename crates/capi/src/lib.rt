@@ -50,7 +50,7 @@ pub fn zela_role_is_span(role: u32, is: &mut bool) -> u8
     0
 }
 
-// A cursor from a caller's numbers.
+// A cursor from a caller's numbers: a literal, as in `ask_of`, since C hands over nothing else.
 fn place_of(pos: usize, limit: usize, block: i8, count: usize) -> Place
     ensures { result ≡ place_of pos limit block count }
 {

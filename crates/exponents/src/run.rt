@@ -6,7 +6,7 @@ use crate::CPL;
 use refusal::{Refusal, Why};
 
 // An exponent at size bins from a bin on; those past the last bin are dropped. The test stands in the loop: without it these few stores
-// become a call that fills memory.
+// become a call that fills memory. That size is at most 4 is a clause here and where it is made: a type for it would be taken apart at once.
 fn put_run(exp: &mut [u8; 256], at: usize, size: usize, e: u8)
     requires { (at ≤ 4096) × (size ≤ 4) }
     ensures { exp.new ≡ sets exp.old at (replicate size e) }

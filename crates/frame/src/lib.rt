@@ -57,6 +57,7 @@ fn bits_behind(aux: bool) -> usize
 }
 
 // Whether there is room for a tail: 6, then 16, then 17 where auxdatal would begin before the cursor.
+// pos has a name, since it is used four times.
 fn fit(frame: &[u8], words: usize, place: Place, total: usize) -> Result<(), Refusal>
     ensures { outcome_of result ≡ fit_of frame.now words place total }
 {

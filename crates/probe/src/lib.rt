@@ -31,7 +31,7 @@ static RATES: [u16; 19] = [
     32, 40, 48, 56, 64, 80, 96, 112, 128, 160, 192, 224, 256, 320, 384, 448, 512, 576, 640,
 ];
 
-// The rate of a frmsizecod.
+// The rate of a frmsizecod, in a function of its own, since the bound of its index is of this table alone.
 #[tactic(auto, unfolding(crate::specs::Probe::rate))]
 fn rate_of(code: u32) -> u16
     requires { code < 38 }

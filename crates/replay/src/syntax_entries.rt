@@ -57,6 +57,7 @@ fn place(args: Row) -> Place {
     }
 }
 
+// A literal over the row: each number is cut to its own low bits, in `place` too.
 fn ask(args: Row) -> Ask {
     Ask {
         name: low::word(args[4]),

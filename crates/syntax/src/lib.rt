@@ -227,7 +227,7 @@ fn signed_word(x: i16) -> u32
     x.cast_unsigned() as u32
 }
 
-// The index of a word.
+// The index of a word. It and `block_of` are a line for each type, over another part of the word.
 fn index_of(w: u32) -> i16
     ensures { result ≡ signed_of 32768 w }
 {
