@@ -1,5 +1,4 @@
 // Lent bytes that a call takes or leaves in arrays of its own.
-ghost use Rattle.std.specs.Prelude.{◌<◌};
 
 // The first N bytes: zeros where there are fewer.
 pub fn array<const N: usize>(from: &[u8]) -> [u8; N] {
@@ -17,23 +16,27 @@ pub fn lay<const N: usize>(array: &[u8; N], to: &mut [u8]) {
 }
 
 // The bytes as M rows of N: zeros in a row for which there are fewer.
-pub fn rows<const N: usize, const M: usize>(from: &[u8]) -> [[u8; N]; M]
-    requires { 0 < N }
-{
+pub fn rows<const N: usize, const M: usize>(from: &[u8]) -> [[u8; N]; M] {
     let mut rows = [[0; N]; M];
-    let (whole, _) = from.as_chunks::<N>();
-    for (row, bytes) in rows.iter_mut().zip(whole) {
+    let mut left = from;
+    for row in &mut rows {
+        let Some((bytes, after)) = left.split_first_chunk::<N>() else {
+            break;
+        };
         *row = *bytes;
+        left = after;
     }
     rows
 }
 
 // Lays rows one after another over the first bytes: those for which there is no room are left out.
-pub fn lay_rows<const N: usize>(rows: &[[u8; N]], to: &mut [u8])
-    requires { 0 < N }
-{
-    let (whole, _) = to.as_chunks_mut::<N>();
-    for (bytes, row) in whole.iter_mut().zip(rows) {
+pub fn lay_rows<const N: usize>(rows: &[[u8; N]], to: &mut [u8]) {
+    let mut left = to;
+    for row in rows {
+        let Some((bytes, after)) = left.split_first_chunk_mut::<N>() else {
+            break;
+        };
         *bytes = *row;
+        left = after;
     }
 }

@@ -1,5 +1,4 @@
 // Rows of numbers: what a call is asked, or what it answers. Those that are not there are 0.
-ghost use Rattle.std.specs.Prelude.{◌≤◌, length};
 
 // At most so many.
 pub const ROOM: usize = 48;
@@ -7,12 +6,12 @@ pub const ROOM: usize = 48;
 // A number that is not there is 0 and no Option, since the recorded format says so.
 pub type Row = [usize; ROOM];
 
-// A row that begins with these.
-pub fn row(numbers: &[usize]) -> Row
-    requires { length numbers.now ≤ 48 }
-{
+// A row that begins with these; those past its room are left out.
+pub fn row(numbers: &[usize]) -> Row {
     let mut row = [0; ROOM];
-    row[..numbers.len()].copy_from_slice(numbers);
+    for (to, number) in row.iter_mut().zip(numbers) {
+        *to = *number;
+    }
     row
 }
 
