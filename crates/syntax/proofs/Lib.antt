@@ -1,4 +1,5 @@
 pub mod Agree
+pub mod AtCursor
 pub mod Bools
 pub mod Ends
 pub mod Examples

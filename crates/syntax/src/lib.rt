@@ -250,9 +250,11 @@ fn put_element(log: &mut [u32], k: usize, e: Element)
     let role = role_word(e.role);
     let block = signed_word(e.block as i16);
     let index = signed_word(e.index);
-    log[8 * k..8 * k + 8].copy_from_slice(&[
-        e.name, role, block, index, e.pos, e.width, e.value, 0,
-    ]);
+    // By value it is eight stores; copy_from_slice would build the array on the stack and copy it from there.
+    let (_, rest) = log.split_at_mut(8 * k);
+    if let Some(words) = rest.first_chunk_mut::<8>() {
+        *words = [e.name, role, block, index, e.pos, e.width, e.value, 0];
+    }
 }
 
 // The element of the eight words at place k of the log.
