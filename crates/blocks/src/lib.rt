@@ -374,8 +374,8 @@ pub fn delta_code(before: Delta, slot: usize, code: u32, block0: bool) -> Result
     if is_bad_code(code, block0) {
         return Err(Why::BadDelta.at(0));
     }
-    // Put over those of before, and neither answered by a branch nor chosen: the segments would pass through memory on their way, and a call
-    // take twice the time.
+    // One answer, over which none are put. With an answer for each case, or one of two chosen by an `if`, the segments would pass through memory
+    // on their way, and a call would take twice the time.
     let mut after = before;
     if code == 2 {
         after = NO_DELTA;
